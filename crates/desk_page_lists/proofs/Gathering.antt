@@ -13,9 +13,18 @@ module _ {X Y : Type 0} (f : X → Y) where
   two_more old one new a b c d first second is_a is_b =
       one_more one new b d second is_b ∙ ap (λ l. l ++ d ∷ []) (one_more old one a c first is_a) ∙ append_assoc (map f old) (c ∷ []) (d ∷ [])
 
--- what is made of the values so far, and of one more
-pub gathers : {X Y : Type 0} (xs : List X) (i : ℕ) (x : X) (f : X → List Y) (start now next : List Y) → i < length xs → x ≡ get_or xs i x
-    → now ≡ start ++ flat_map f (take i xs) → next ≡ now ++ f x → next ≡ start ++ flat_map f (take (i + 1) xs)
-gathers xs i x f start now next below is before added =
-    added ∙ ap (λ l. l ++ f x) before ∙ flat_map_more f start (take i xs) x
-    ∙ ap (λ ys. start ++ flat_map f ys) (ap (λ y. take i xs ++ y ∷ []) is ∙ sym (take_more xs i x below))
+-- what is made of the values so far, with a mark before each, and of one more
+pub gathers : {X Y : Type 0} (xs : List X) (i : ℕ) (d : X) (mark : Y) (f : X → List Y) (start now one next : List Y) → i < length xs
+    → now ≡ start ++ flat_map (λ x. mark ∷ f x) (take i xs) → one ≡ now ++ mark ∷ [] → next ≡ one ++ f (get_or xs i d)
+    → next ≡ start ++ flat_map (λ x. mark ∷ f x) (take (i + 1) xs)
+gathers xs i d mark f start now one next below before marked added =
+    let x = get_or xs i d in
+    added ∙ ap (λ l. l ++ f x) marked ∙ append_assoc now (mark ∷ []) (f x) ∙ ap (λ l. l ++ (mark ∷ f x)) before
+    ∙ flat_map_more (λ x. mark ∷ f x) start (take i xs) x ∙ ap (λ ys. start ++ flat_map (λ x. mark ∷ f x) ys) (sym (take_more xs i d below))
+
+-- a cell before others, of one part or of more
+pub part_before : {Y : Type 0} (c d : Y) (cells others : List (List Y)) → c ≡ d → cells ≡ others → (c ∷ []) ∷ cells ≡ (d ∷ []) ∷ others
+part_before c d cells others same rest = ap (λ y. (y ∷ []) ∷ cells) same ∙ ap (λ ys. (d ∷ []) ∷ ys) rest
+
+pub cell_before : {Y : Type 0} (c d : List Y) (cells others : List (List Y)) → c ≡ d → cells ≡ others → c ∷ cells ≡ d ∷ others
+cell_before c d cells others same rest = ap (λ y. y ∷ cells) same ∙ ap (λ ys. d ∷ ys) rest

@@ -9,7 +9,7 @@ use Rattle.page_html.specs.Items.{Digits, Item, Nothing, Number, Words, Own, Cod
 use Rattle.page_html.specs.Tables.{Count, Frame, Name, Plain, rows_html, table_start}
 use Rattle.page_html.specs.Titles.{Said}
 use Rattle.page_html.specs.declared.blocks.Tag.TheVariants.{TableEnd}
-use Rattle.desk_page_lists.specs.Tables.{long_end, long_start}
+use Rattle.desk_page_lists.specs.Tables.{long_end, long_start, number}
 use Rattle.desk_page_lists.specs.declared.files.FileRow.{FileRow}
 
 -- the table
@@ -22,14 +22,21 @@ frame = record {
       ∷ Count (codes "Bytes") ∷ Plain (codes "SHA-256 of the text") ∷ Plain (codes "Remark") ∷ [];
 }
 
--- who approved a revision, if somebody did
+-- what stands for nothing
+abbrev pub dash : Item (List ℕ)
+dash = Own (Words (codes "-"))
+
+-- who wrote a revision, and who approved it, if somebody did
+abbrev pub author : Head → Item (List ℕ)
+author head = Code head.author
+
 abbrev pub approver : Option (List ℕ) → Item (List ℕ)
-approver None = Own (Words (codes "-"))
+approver None = dash
 approver (Some name) = Code name
 
 -- by which profile an exports file is read
 abbrev pub profile : Head → Item (List ℕ)
-profile head = if is_of_seven head.file then Own (Words (codes "-")) else Own (Digits (profile_number head.profile))
+profile head = if is_of_seven head.file then dash else Own (Digits (profile_number head.profile))
 
 -- how many bytes the text of a revision has
 abbrev pub size : Head → Item (List ℕ)
@@ -43,19 +50,16 @@ abbrev pub remark : Option (List ℕ) → Bool → List (Item (List ℕ))
 remark None is_unlisted = unlisted_or is_unlisted (codes "unlisted") (codes "-") ∷ Own Nothing ∷ Own Nothing ∷ []
 remark (Some name) is_unlisted = Own (Words (codes "proposal by ")) ∷ Code name ∷ unlisted_or is_unlisted (codes ", unlisted") [] ∷ []
 
--- a cell of what there is not
-abbrev pub none : List (Item (List ℕ))
-none = Own (Words (codes "-")) ∷ []
-
 -- a file without a revision: what is remarkable of it
 abbrev pub unwritten : FileRow → List (List (Item (List ℕ)))
 unwritten row =
-    (Code row.file.now ∷ []) ∷ none ∷ none ∷ none ∷ none ∷ none ∷ none ∷ remark (option_copied row.proposer) row.is_unlisted ∷ []
+    (Code row.file.now ∷ []) ∷ (dash ∷ []) ∷ (dash ∷ []) ∷ (dash ∷ []) ∷ (dash ∷ []) ∷ (dash ∷ []) ∷ (dash ∷ [])
+    ∷ remark (option_copied row.proposer) row.is_unlisted ∷ []
 
 -- one with a revision: its number, who wrote it and who approved it, its profile, how many bytes it has, and their digest
 abbrev pub written : FileRow → Head → List (List (Item (List ℕ)))
 written row head =
-    (Code row.file.now ∷ []) ∷ (Own (Number head.rev) ∷ []) ∷ (Code head.author ∷ []) ∷ (approver head.approver ∷ [])
+    (Code row.file.now ∷ []) ∷ (number head.rev ∷ []) ∷ (author head ∷ []) ∷ (approver head.approver ∷ [])
     ∷ (profile head ∷ []) ∷ (size head ∷ []) ∷ (Digest row.digest.now ∷ []) ∷ remark (option_copied row.proposer) row.is_unlisted ∷ []
 
 abbrev pub cells_with : FileRow → Option Head → List (List (Item (List ℕ)))

@@ -8,7 +8,7 @@ use Rattle.page_html.specs.Titles.{Said}
 use Rattle.page_html.specs.declared.blocks.Element.TheVariants.{Paragraph}
 use Rattle.page_html.specs.declared.blocks.Tag.TheVariants.{TableEnd}
 use Rattle.desk_page_lists.specs.Mentions.{some_or}
-use Rattle.desk_page_lists.specs.Tables.{long_end, long_start}
+use Rattle.desk_page_lists.specs.Tables.{long_end, long_start, number}
 use Rattle.desk_page_lists.specs.declared.mentions.Mention.{Mention}
 use Rattle.desk_page_lists.specs.declared.names.HostKind.{HostKind}
 use Rattle.desk_page_lists.specs.declared.names.HostKind.TheVariants.{Ipv6, Known, Unknown}
@@ -41,7 +41,7 @@ netgroup_frame = record {
 -- and the lines that write it
 abbrev pub netgroup : NetgroupRow → List (List (Item (List ℕ)))
 netgroup row =
-    (Code row.name.now ∷ []) ∷ (Own (Number row.line) ∷ []) ∷ members_of row.members.now ∷ (Own (Number row.hosts) ∷ [])
+    (Code row.name.now ∷ []) ∷ (number row.line ∷ []) ∷ members_of row.members.now ∷ (Own (Number row.hosts) ∷ [])
     ∷ (Own (Number row.addresses) ∷ []) ∷ (stands_for row.ranges.now ∷ []) ∷ uses_of row.uses.now ∷ []
 
 -- netgroups, folded if there are more than 24

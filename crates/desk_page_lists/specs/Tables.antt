@@ -1,7 +1,7 @@
 -- The tables of the summary of the page, and what is folded. (this project's own)
 use Rattle.std.specs.Prelude.{ℕ, List, [], ◌∷◌, codes, false, nat_le, true, if◌then◌else◌}
 use Rattle.page_html.specs.Blocks.{element_html, tag_html}
-use Rattle.page_html.specs.Items.{Plural, Own}
+use Rattle.page_html.specs.Items.{Item, Number, Plural, Own}
 use Rattle.page_html.specs.Tables as html
 use Rattle.page_html.specs.Tables.{Count, Frame, Name, Plain}
 use Rattle.page_html.specs.Titles.{Said}
@@ -78,3 +78,7 @@ long_start most count one more = if nat_le count most then [] else fold_start co
 
 abbrev pub long_end : ℕ → ℕ → List ℕ
 long_end most count = if nat_le count most then [] else fold_end
+
+-- the number of a line or of a revision
+abbrev pub number : ℕ → Item (List ℕ)
+number n = Own (Number n)

@@ -7,7 +7,7 @@ ghost use Rattle.page_html.specs.Parts.{item_of};
 ghost use Rattle.page_html.specs.Tables.{row_html, rows_html};
 ghost use Rattle.desk_page_lists.specs.Files as spec;
 
-use crate::tables::{push_long_end, push_long_start};
+use crate::tables::{number_of, push_long_end, push_long_start};
 use desk_core::Head;
 use desk_policy::SiteFile;
 use desk_text::Text;
@@ -90,22 +90,29 @@ fn push_unwritten(alloc: Global, row: &FileRow<'_>, page: &mut String) -> Result
     let remark = remark_of(row);
     let cells: [&[Part<'_>]; 8] = [
         &[Part::Code(row.file)],
-        &[Part::Words("-")],
-        &[Part::Words("-")],
-        &[Part::Words("-")],
-        &[Part::Words("-")],
-        &[Part::Words("-")],
-        &[Part::Words("-")],
+        &[dash()],
+        &[dash()],
+        &[dash()],
+        &[dash()],
+        &[dash()],
+        &[dash()],
         &remark,
     ];
     push_row(alloc, &FILES, &cells, page)
 }
 
+/// Returns what stands for nothing.
+fn dash<'a>() -> Part<'a>
+    ensures { item_of result ≡ spec.dash }
+{
+    Part::Words("-")
+}
+
 /// Adds the row of a file that has one.
-fn push_written(
+fn push_written<'a>(
     alloc: Global,
-    row: &FileRow<'_>,
-    head: &Head,
+    row: &FileRow<'a>,
+    head: &'a Head,
     page: &mut String,
 ) -> Result<(), AllocError>
     ensures { OnOk result (string_bytes page.new ≡ string_bytes page.old ++ row_html spec.frame (spec.written row.now head.now)) }
@@ -113,8 +120,8 @@ fn push_written(
     let remark = remark_of(row);
     let cells: [&[Part<'_>]; 8] = [
         &[Part::Code(row.file)],
-        &[Part::Number(u64::from(head.rev))],
-        &[Part::Code(head.author.as_str())],
+        &[number_of(head.rev)],
+        &[author_of(head)],
         &[approver_of(head)],
         &[profile_of(head)],
         &[size_of(head)],
@@ -124,12 +131,19 @@ fn push_written(
     push_row(alloc, &FILES, &cells, page)
 }
 
+/// Returns who wrote a revision.
+fn author_of<'a>(head: &'a Head) -> Part<'a>
+    ensures { item_of result ≡ spec.author head.now }
+{
+    Part::Code(head.author.as_str())
+}
+
 /// Returns who approved a revision, if somebody did.
 fn approver_of<'a>(head: &'a Head) -> Part<'a>
     ensures { item_of result ≡ spec.approver head.now.approver }
 {
     match &head.approver {
-        None => Part::Words("-"),
+        None => dash(),
         Some(name) => Part::Code(name.as_str()),
     }
 }
@@ -139,7 +153,7 @@ fn profile_of<'a>(head: &'a Head) -> Part<'a>
     ensures { item_of result ≡ spec.profile head.now }
 {
     if SiteFile::is_name(head.file.as_str()) {
-        Part::Words("-")
+        dash()
     } else {
         Part::Digits(head.profile.number())
     }

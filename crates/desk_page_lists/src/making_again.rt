@@ -42,20 +42,24 @@ fn push_heading(alloc: Global, page: &mut String) -> Result<(), AllocError>
 fn push_commands(alloc: Global, word: &str, page: &mut String) -> Result<(), AllocError>
     ensures { OnOk result (string_bytes page.new ≡ string_bytes page.old ++ spec.commands word.now) }
 {
-    let parts: [Part<'_>; 11] = [
-        Part::Words("exportdesk report "),
-        Part::Text(word),
-        Part::Words(" >report.html"),
-        Part::NewLine,
-        Part::Words("exportdesk report "),
-        Part::Text(word),
-        Part::Words(" | cmp - report.html"),
-        Part::NewLine,
-        Part::Words("exportdesk cat "),
-        Part::Text(word),
-        Part::Words(" exports:MOUNT | sha256sum"),
-    ];
-    push_element(alloc, Element::Commands, &parts, page)
+    push_element(
+        alloc,
+        Element::Commands,
+        &[
+            Part::Words("exportdesk report "),
+            Part::Text(word),
+            Part::Words(" >report.html"),
+            Part::NewLine,
+            Part::Words("exportdesk report "),
+            Part::Text(word),
+            Part::Words(" | cmp - report.html"),
+            Part::NewLine,
+            Part::Words("exportdesk cat "),
+            Part::Text(word),
+            Part::Words(" exports:MOUNT | sha256sum"),
+        ],
+        page,
+    )
 }
 
 /// Adds what is said of the commands.

@@ -43,7 +43,7 @@ pub(crate) fn some_or<'a>(
     most: usize,
     nothing: Part<'a>,
 ) -> Result<Vec<Part<'a>>, AllocError>
-    ensures { IfOk result (λ parts. map item_of parts.items ≡ spec.some_or most (item_of nothing) mentions.now) }
+    ensures { IfOk result (λ parts. map item_of parts.items ≡ spec.some_or most (item_of nothing.entry) mentions.now) }
 {
     if mentions.is_empty() {
         let mut parts = Vec::new(alloc);
@@ -95,7 +95,7 @@ fn push_later<'a>(mentions: &[Mention<'a>], parts: &mut Vec<Part<'a>>) -> Result
 
 /// Adds one that is named.
 fn push_mention<'a>(mention: Mention<'a>, parts: &mut Vec<Part<'a>>) -> Result<(), AllocError>
-    ensures { OnOk result (map item_of parts.new.items ≡ map item_of parts.old.items ++ spec.mention mention) }
+    ensures { OnOk result (map item_of parts.new.items ≡ map item_of parts.old.items ++ spec.mention mention.entry) }
 {
     parts.push(kind_of(mention))?;
     parts.push(named(mention))?;
@@ -104,7 +104,7 @@ fn push_mention<'a>(mention: Mention<'a>, parts: &mut Vec<Part<'a>>) -> Result<(
 
 /// Returns what is said of a kind before the name.
 fn kind_of<'a>(mention: Mention<'a>) -> Part<'a>
-    ensures { item_of result ≡ spec.kind mention }
+    ensures { item_of result ≡ spec.kind mention.entry }
 {
     match mention {
         Mention::Group(_) => Part::Words("group "),
@@ -114,7 +114,7 @@ fn kind_of<'a>(mention: Mention<'a>) -> Part<'a>
 
 /// Returns the name, with a link to a file system or to a line.
 fn named<'a>(mention: Mention<'a>) -> Part<'a>
-    ensures { item_of result ≡ spec.named mention }
+    ensures { item_of result ≡ spec.named mention.entry }
 {
     match mention {
         Mention::System(fs, name) => Part::System(fs, name),

@@ -7,7 +7,7 @@ ghost use Rattle.page_html.specs.Tables.{row_html, rows_html};
 ghost use Rattle.desk_page_lists.specs.Names as spec;
 
 use crate::mentions::{Mention, some_or};
-use crate::tables::{push_long_end, push_long_start};
+use crate::tables::{five_cells, number_of, push_long_end, push_long_start, seven_cells};
 use desk_page::Span;
 use page_html::{
     Column, Element, Frame, Part, Tag, Title, push_element, push_row, push_table_start, push_tag,
@@ -154,16 +154,20 @@ fn push_netgroup(alloc: Global, row: &NetgroupRow<'_>, page: &mut String) -> Res
 {
     let members = some_or(alloc, row.members, MOST_MEMBERS, Part::Words("-"))?;
     let uses = some_or(alloc, row.uses, MOST_USES, Part::Zero("no line"))?;
-    let cells: [&[Part<'_>]; 7] = [
-        &[Part::Code(row.name)],
-        &[Part::Number(u64::from(row.line))],
-        members.as_slice(),
-        &[Part::Number(row.hosts)],
-        &[Part::Number(row.addresses)],
-        &[stands_for(row.ranges)],
-        uses.as_slice(),
-    ];
-    push_row(alloc, &NETGROUPS, &cells, page)?;
+    push_row(
+        alloc,
+        &NETGROUPS,
+        &seven_cells(
+            &[Part::Code(row.name)],
+            &[number_of(row.line)],
+            members.as_slice(),
+            &[Part::Number(row.hosts)],
+            &[Part::Number(row.addresses)],
+            &[stands_for(row.ranges)],
+            uses.as_slice(),
+        ),
+        page,
+    )?;
     Ok(())
 }
 
@@ -223,14 +227,18 @@ fn push_host(alloc: Global, row: &HostRow<'_>, page: &mut String) -> Result<(), 
     ensures { OnOk result (string_bytes page.new ≡ string_bytes page.old ++ row_html spec.host_frame (spec.host row.now)) }
 {
     let uses = some_or(alloc, row.uses, MOST_USES, Part::Zero("no line"))?;
-    let cells: [&[Part<'_>]; 5] = [
-        &[Part::Code(row.name)],
-        &[kind_of(row.kind)],
-        &[Part::Number(row.addresses)],
-        &[stands_for(row.ranges)],
-        uses.as_slice(),
-    ];
-    push_row(alloc, &HOSTS, &cells, page)?;
+    push_row(
+        alloc,
+        &HOSTS,
+        &five_cells(
+            &[Part::Code(row.name)],
+            &[kind_of(row.kind)],
+            &[Part::Number(row.addresses)],
+            &[stands_for(row.ranges)],
+            uses.as_slice(),
+        ),
+        page,
+    )?;
     Ok(())
 }
 

@@ -1,7 +1,8 @@
 //! The tables of the summary of the page: how each begins; and what is folded.
 
-ghost use Rattle.std.specs.Prelude.{◌≡◌, ◌++◌, OnOk};
+ghost use Rattle.std.specs.Prelude.{◌≡◌, ◌++◌, ◌∷◌, [], OnOk, map};
 ghost use Rattle.std.specs.String.{string_bytes};
+ghost use Rattle.page_html.specs.Parts.{item_of, items_of};
 ghost use Rattle.page_html.specs.Tables.{frame_of};
 ghost use Rattle.desk_page_lists.specs.Tables as spec;
 
@@ -171,4 +172,42 @@ pub(crate) fn push_long_end(most: u64, count: u64, page: &mut String) -> Result<
         return Ok(());
     }
     push_fold_end(page)
+}
+
+/// Returns the number of a line or of a revision.
+pub(crate) fn number_of<'a>(number: u32) -> Part<'a>
+    ensures { item_of result ≡ spec.number number }
+{
+    Part::Number(u64::from(number))
+}
+
+/// Makes a row of five cells.
+pub(crate) fn five_cells<'a>(
+    first: &'a [Part<'a>],
+    second: &'a [Part<'a>],
+    third: &'a [Part<'a>],
+    fourth: &'a [Part<'a>],
+    fifth: &'a [Part<'a>],
+) -> [&'a [Part<'a>]; 5]
+    ensures { map (λ cell. items_of cell.now) result
+        ≡ items_of first.now ∷ items_of second.now ∷ items_of third.now ∷ items_of fourth.now ∷ items_of fifth.now ∷ [] }
+{
+    [first, second, third, fourth, fifth]
+}
+
+/// Makes a row of seven cells.
+pub(crate) fn seven_cells<'a>(
+    first: &'a [Part<'a>],
+    second: &'a [Part<'a>],
+    third: &'a [Part<'a>],
+    fourth: &'a [Part<'a>],
+    fifth: &'a [Part<'a>],
+    sixth: &'a [Part<'a>],
+    seventh: &'a [Part<'a>],
+) -> [&'a [Part<'a>]; 7]
+    ensures { map (λ cell. items_of cell.now) result
+        ≡ items_of first.now ∷ items_of second.now ∷ items_of third.now ∷ items_of fourth.now ∷ items_of fifth.now ∷ items_of sixth.now
+        ∷ items_of seventh.now ∷ [] }
+{
+    [first, second, third, fourth, fifth, sixth, seventh]
 }

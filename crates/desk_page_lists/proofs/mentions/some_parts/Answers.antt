@@ -14,4 +14,4 @@ returns c =
     let others : c.split_at.result.1.now ≡ drop most all = c.split_at.ensures.back ∙ ap (λ n. drop n all) c.min.ensures ∙ drop_min most all in
     one_more item_of c.push_mentions.new.parts.items c.push.new.self.items _ (Own (AndMore (length (drop most all)))) c.in_ok-push.ensures.items
     (ap (λ some. Own (AndMore (length some))) others)
-    ∙ ap (λ some. some ++ Own (AndMore (length (drop most all))) ∷ []) (c.in_ok-push_mentions.ensures ∙ ap all_of named)
+    ∙ ap (λ some. some ++ Own (AndMore (length (drop most all))) ∷ []) (c.in_ok-push_mentions.ensures ∙ ap (λ parts. map item_of parts ++ all_of c.split_at.result.0.now) c.new-parts.ensures.items ∙ ap all_of named)
