@@ -1,6 +1,7 @@
--- How the fault of a text of expectations is printed. (this project's own)
+-- How the faults of a text of expectations are printed. (this project's own)
 use Rattle.std.specs.Prelude.{◌≡◌, ℕ, ◌+◌, List, [], ◌∷◌, ◌++◌, Some, codes, length, slice_range, take}
 use Rattle.std.specs.Fmt.{decimal}
+use Rattle.std.specs.List.{flat_map}
 use Rattle.std.specs.Str.{chars}
 use Rattle.std.specs.String.{string_bytes}
 use Rattle.desk_text.specs.Place.{line_at}
@@ -47,7 +48,15 @@ abbrev pub finding_text : List ℕ → List ℕ → PlacedFault → List ℕ
 finding_text path line placed =
     position_text path line placed.place ++ rule_text placed.fault.rule ++ slice_text line placed.place ++ sentence_text placed.fault.rule ++ marked_line line (Some placed.place)
 
--- the fault of a text is printed in a line, and standard error shows it
-pub record PrintsFault (path text : List ℕ) (placed : PlacedFault) (printed : Printed) : Type 0 where
-  pub prints : Prints 3 (fault_line placed.fault) printed
-  pub shows : string_bytes printed.note ≡ finding_text path (line_at text placed.place.line) placed
+-- the same of a fault of a text: the line is that of its place
+abbrev pub finding_in : List ℕ → List ℕ → PlacedFault → List ℕ
+finding_in path text placed = finding_text path (line_at text placed.place.line) placed
+
+-- all of them, one after the other
+abbrev pub findings_text : List ℕ → List ℕ → List PlacedFault → List ℕ
+findings_text path text found = flat_map (finding_in path text) found
+
+-- the fault with which a text is refused is printed in a line, and standard error shows all faults that were found
+pub record PrintsFaults (path text : List ℕ) (fault : LineFault Rule) (found : List PlacedFault) (printed : Printed) : Type 0 where
+  pub prints : Prints 3 (fault_line fault) printed
+  pub shows : string_bytes printed.note ≡ findings_text path text found

@@ -2,4 +2,5 @@ pub mod BreachesJson
 pub mod FaultPrints
 pub mod Laws
 pub mod PrivateBreachesJson
+pub mod PrivateFaultPrints
 pub mod Tested

@@ -1,22 +1,26 @@
 -- What is printed of the expectations of a text, by a policy and the tables of its site. (this project's own)
-use Rattle.std.specs.Prelude.{◌≡◌, ◌⊎◌, ℕ, ◌++◌, ◌==◌, Bool, true, false, List, length, if◌then◌else◌}
+use Rattle.std.specs.Prelude.{◌≡◌, ◌⊎◌, ℕ, ◌++◌, ◌==◌, Bool, true, false, List, Err, length, if◌then◌else◌}
 use Rattle.std.specs.String.{string_bytes}
+use Rattle.desk_text.specs.declared.reading.LineFault.{LineFault}
 use Rattle.desk_policy.specs.Policy.{Content}
 use Rattle.desk_policy.specs.declared.parsing.SiteTables.{SiteTables}
+use Rattle.desk_expect.specs.FaultyLines.{AreFaultsIn}
+use Rattle.desk_expect.specs.HostBits.{host_bits_text}
 use Rattle.desk_expect.specs.Outside.{outside_in, outside_text}
-use Rattle.desk_expect.specs.Reading.{AreExpectationsIn, IsFaultIn}
+use Rattle.desk_expect.specs.Reading.{AreExpectationsIn, read_promises}
 use Rattle.desk_expect.specs.Report.{AreBroken}
 use Rattle.desk_expect.specs.ReportText.{BrokenValue, report_text}
 use Rattle.desk_expect.specs.declared.expectation.Expectation.{Expectation}
 use Rattle.desk_expect.specs.declared.report.TestReport.{TestReport}
 use Rattle.desk_expect.specs.declared.rules.PlacedFault.{PlacedFault}
+use Rattle.desk_expect.specs.declared.rules.Rule.{Rule}
 use Rattle.desk_server_prints.specs.LeftOutNote.{TellsLeftOut}
 use Rattle.desk_shown.specs.ShownText.{shown_text}
 use Rattle.cli_output.specs.Printed.{Prints}
 use Rattle.cli_output.specs.Shown.{shown_lines}
 use Rattle.cli_output.specs.declared.printed.Printed.{Printed}
 use Rattle.cli_expectations.specs.BreachesJson.{breaches_json}
-use Rattle.cli_expectations.specs.FaultPrints.{PrintsFault}
+use Rattle.cli_expectations.specs.FaultPrints.{PrintsFaults}
 use Rattle.cli_expectations.specs.declared.expectations_file.ExpectationsFile.{ExpectationsFile}
 
 -- a text of expectations, with the path of its file, and whether what is broken is printed as JSON
@@ -41,31 +45,36 @@ pub record IsShownReport (content : Content) (file : List ℕ) (json : Bool) (ex
   pub text : string_bytes report.text ≡ shown_broken json content file (length expectations) broken
   pub count : report.broken ≡ length broken
 
--- the directories of these expectations are named that no file system has anything of, and then the lines that mountd(8) may leave out
-pub record SaysBeside (content : Content) (file : List ℕ) (expectations : List Expectation) (note : List ℕ) : Type 0 where
+-- The directories of these expectations are named that no file system has anything of; then the networks that the text writes with host
+-- bits, each with the one that is meant; and then the lines that mountd(8) may leave out.
+pub record SaysBeside (content : Content) (file text : List ℕ) (expectations : List Expectation) (note : List ℕ) : Type 0 where
   pub left_out : List ℕ
   pub tells : TellsLeftOut content left_out
-  pub says : note ≡ outside_text file (outside_in content.table expectations) ++ left_out
+  pub says : note ≡ outside_text file (outside_in content.table expectations) ++ (host_bits_text file text ++ left_out)
 
--- The report is printed: the status is 0 if no expectation is broken, and else 1. Standard error names the directories of the lines that
--- no file system has anything of, and the lines that mountd(8) may leave out.
-pub record PrintsKept (content : Content) (file : List ℕ) (json : Bool) (expectations : List Expectation) (printed : Printed) : Type 0 where
+-- The report of these expectations of a text is printed: the status is 0 if no expectation is broken, and else 1. Standard error names the
+-- directories of the lines that no file system has anything of, the networks that are written with host bits, and the lines that mountd(8)
+-- may leave out.
+pub record PrintsKept (content : Content) (expected : Expected) (expectations : List Expectation) (printed : Printed) : Type 0 where
   pub report : TestReport
-  pub is : IsShownReport content file json expectations report
+  pub is : IsShownReport content expected.path expected.json expectations report
   pub prints : Prints (if report.broken == 0 then 0 else 1) (string_bytes report.text) printed
-  pub beside : SaysBeside content (shown_text file) expectations (string_bytes printed.note)
+  pub beside : SaysBeside content (shown_text expected.path) expected.text expectations (string_bytes printed.note)
 
 -- the text has expectations, with these tables, and which of them are broken is printed
 pub record PrintsRead (tables : SiteTables) (content : Content) (expected : Expected) (printed : Printed) : Type 0 where
   pub expectations : List Expectation
   pub read : AreExpectationsIn tables.netgroups tables.hosts expected.text expectations
-  pub prints : PrintsKept content expected.path expected.json expectations printed
+  pub prints : PrintsKept content expected expectations printed
 
--- the text has a fault, with these tables, and it is printed
+-- The text is refused with a fault, with these tables. It is printed, and standard error shows this one and all other faults of the text, in
+-- the order of its lines.
 pub record PrintsUnread (tables : SiteTables) (expected : Expected) (printed : Printed) : Type 0 where
-  pub placed : PlacedFault
-  pub is : IsFaultIn tables.netgroups tables.hosts expected.text placed
-  pub prints : PrintsFault expected.path expected.text placed printed
+  pub fault : LineFault Rule
+  pub read : read_promises tables.netgroups tables.hosts expected.text ≡ Err fault
+  pub found : List PlacedFault
+  pub are : AreFaultsIn tables.netgroups tables.hosts expected.text found
+  pub prints : PrintsFaults expected.path expected.text fault found printed
 
 -- what is printed of the text
 abbrev pub PrintsTested : SiteTables → Content → Expected → Printed → Type 0

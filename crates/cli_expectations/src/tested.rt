@@ -1,27 +1,29 @@
 //! Whether a policy keeps what a text expects of it.
 
-ghost use Rattle.std.specs.Prelude.{◌≡◌, IfOk, false, true};
+ghost use Rattle.std.specs.Prelude.{◌≡◌, Err, IfOk, false, true};
 ghost use Rattle.std.specs.String.{string_bytes};
+ghost use Rattle.desk_text.specs.Lines.{IsReadable};
 ghost use Rattle.desk_expect.specs.Outside.{outside_in, outside_text};
-ghost use Rattle.cli_expectations.specs.Tested.{IsShownReport, PrintsKept, PrintsTested, SaysBeside, expected_of};
+ghost use Rattle.desk_expect.specs.Reading.{read_promises};
+ghost use Rattle.cli_expectations.specs.Tested.{IsShownReport, PrintsKept, PrintsTested, PrintsUnread, SaysBeside, expected_of};
 
 use crate::breaches_json::breaches_json;
 use crate::expectations_file::ExpectationsFile;
-use crate::fault_prints::print_fault;
+use crate::fault_prints::print_faults;
 use cli_output::printed::Printed;
 use cli_output::shown::{shown_lines, shown_name};
 use desk_expect::{
-    Expectation, TestReport, find_broken, find_outside, outside_text, read_expectations,
-    test_report,
+    Expectation, Rule, TestReport, find_broken, find_faults, find_outside, host_bits_text,
+    outside_text, read_expectations, test_report,
 };
 use desk_index::Index;
 use desk_policy::{Policy, PolicyView, SiteTables};
 use desk_server_prints::left_out_note;
-use desk_text::ReadError;
+use desk_text::{LineFault, ReadError};
 use std::alloc::{AllocError, Global};
 
 /// Prints which expectations of a text a policy breaks, as text or as JSON: the status is 0 if it breaks none, and else 1. Names are
-/// looked up in these tables. A fault of the text is printed with the status 3.
+/// looked up in these tables. If the text has faults, the first is printed with the status 3.
 pub fn print_tested(
     alloc: Global,
     tables: &SiteTables,
@@ -31,27 +33,40 @@ pub fn print_tested(
     ensures { IfOk result (PrintsTested tables.now index.now (expected_of file.entry)) }
 {
     match read_expectations(alloc, file.text, &tables.netgroups, &tables.hosts) {
-        Ok(expectations) => print_kept(alloc, index, file.path, file.json, expectations.as_slice()),
-        Err(ReadError::Fault(placed)) => print_fault(alloc, file.path, file.text, placed),
+        Ok(expectations) => print_kept(alloc, index, file, expectations.as_slice()),
+        Err(ReadError::Fault(placed)) => print_unread(alloc, tables, file, placed.fault),
         Err(ReadError::Memory) => Err(AllocError),
     }
 }
 
+/// Prints the fault with which a text is refused, and all faults of it on standard error.
+fn print_unread(
+    alloc: Global,
+    tables: &SiteTables,
+    file: ExpectationsFile<'_>,
+    fault: LineFault<Rule>,
+) -> Result<Printed, AllocError>
+    requires { read_promises tables.now.netgroups tables.now.hosts file.entry.text.now ≡ Err fault }
+    ensures { IfOk result (PrintsUnread tables.now (expected_of file.entry)) }
+{
+    let found = find_faults(alloc, file.text, &tables.netgroups, &tables.hosts)?;
+    print_faults(alloc, file.path, file.text, fault, found.as_slice())
+}
+
 /// Prints which of these expectations of a file a policy breaks. Standard error names the directories that no file system has anything
-/// of, and the lines that mountd(8) may leave out.
+/// of, the networks that are written with host bits, and the lines that mountd(8) may leave out.
 fn print_kept(
     alloc: Global,
     index: &Index,
-    file: &str,
-    json: bool,
+    file: ExpectationsFile<'_>,
     expectations: &[Expectation],
 ) -> Result<Printed, AllocError>
-    ensures { IfOk result (PrintsKept index.now file.now json expectations.now) }
+    ensures { IfOk result (PrintsKept index.now (expected_of file.entry) expectations.now) }
 {
-    let name = shown_name(alloc, file)?;
+    let name = shown_name(alloc, file.path)?;
     let shown = name.as_str();
-    let note = beside_note(alloc, index, shown, expectations)?;
-    let report = shown_report(alloc, index, file, json, expectations)?;
+    let note = beside_note(alloc, index, shown, file.text, expectations)?;
+    let report = shown_report(alloc, index, file.path, file.json, expectations)?;
     Ok(Printed {
         status: if report.broken == 0 { 0 } else { 1 },
         text: report.text,
@@ -59,18 +74,22 @@ fn print_kept(
     })
 }
 
-/// Names the directories of these expectations that no file system of a policy has anything of, and then the lines that mountd(8) may
-/// leave out.
+/// Names the directories of these expectations of a text that no file system of a policy has anything of, then the networks that the text
+/// writes with host bits, and then the lines that mountd(8) may leave out.
 fn beside_note(
     alloc: Global,
     index: &Index,
     file: &str,
+    text: &str,
     expectations: &[Expectation],
 ) -> Result<String, AllocError>
-    ensures { IfOk result (λ note. SaysBeside index.now file.now expectations.now (string_bytes note)) }
+    requires { IsReadable text.now }
+    ensures { IfOk result (λ note. SaysBeside index.now file.now text.now expectations.now (string_bytes note)) }
 {
     let left_out = left_out_note(alloc, index)?;
+    let host_bits = host_bits_text(alloc, file, text)?;
     let mut note = outside_note(alloc, index.policy(), file, expectations)?;
+    note.push_str(host_bits.as_str())?;
     note.push_str(left_out.as_str())?;
     Ok(note)
 }

@@ -1,6 +1,7 @@
 pub mod Denied
 pub mod Dots
 pub mod FaultWords
+pub mod FaultyLines
 pub mod Gathered
 pub mod Held
 pub mod Holding

@@ -2,7 +2,9 @@ pub mod Action
 pub mod Audience
 pub mod Expectation
 pub mod Faults
+pub mod FaultyLines
 pub mod Form
+pub mod HostBits
 pub mod Judging
 pub mod Laws
 pub mod Meaning
@@ -10,6 +12,7 @@ pub mod Names
 pub mod Outside
 pub mod PrivateAudience
 pub mod PrivateFaults
+pub mod PrivateFaultyLines
 pub mod PrivateMeaning
 pub mod PrivateReading
 pub mod PrivateReport

@@ -1,5 +1,6 @@
 //! What the definitions of this crate keep, each as a function that does nothing.
 
+ghost use Rattle.desk_expect.specs.FaultyLines.{FirstOfFaultsIsReported};
 ghost use Rattle.desk_expect.specs.Laws.{NoBrokenIsAllHold, NoneBrokenIsAllHold, UnreportedLinesHold};
 ghost use Rattle.desk_expect.specs.Outside.{OutsideIsDenied};
 
@@ -30,4 +31,9 @@ pub fn none_broken_is_all_hold()
 /// A directory of which neither it nor anything below it is in a file system is denied to everybody, and all below it.
 pub fn outside_is_denied()
     ensures { OutsideIsDenied }
+{}
+
+/// A text is refused with a fault exactly if that is the first of its faults.
+pub fn first_of_faults_is_reported()
+    ensures { FirstOfFaultsIsReported }
 {}

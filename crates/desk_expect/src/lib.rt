@@ -11,7 +11,9 @@ pub mod action;
 pub mod audience;
 pub mod expectation;
 mod faults;
+pub mod faulty_lines;
 pub mod form;
+pub mod host_bits;
 pub mod judging;
 pub mod laws;
 pub mod meaning;
@@ -28,9 +30,12 @@ pub mod spans;
 pub use action::Action;
 pub use audience::Audience;
 pub use expectation::Expectation;
+pub use faulty_lines::find_faults;
+pub use host_bits::host_bits_text;
 pub use judging::Judged;
 pub use laws::{
-    no_broken_is_all_hold, none_broken_is_all_hold, outside_is_denied, unreported_lines_hold,
+    first_of_faults_is_reported, no_broken_is_all_hold, none_broken_is_all_hold, outside_is_denied,
+    unreported_lines_hold,
 };
 pub use outside::{Outside, find_outside, outside_text};
 pub use reading::read_expectations;

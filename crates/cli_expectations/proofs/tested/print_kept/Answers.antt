@@ -9,6 +9,6 @@ returns c = record {
   is = c.in_ok-report.ensures;
   prints = record { status_is = search rules; text_is = refl };
   beside =
-      subst (λ (file : List ℕ). SaysBeside c.args.index.now file c.args.expectations.now (string_bytes c.in_ok-note.note)) (c.as_str-shown.ensures.value ∙ c.in_ok-name.ensures)
+      subst (λ (file : List ℕ). SaysBeside c.args.index.now file c.args.file.text.now c.args.expectations.now (string_bytes c.in_ok-note.note)) (c.as_str-shown.ensures.value ∙ c.in_ok-name.ensures)
       c.in_ok-note.ensures;
 }
