@@ -4,7 +4,7 @@ output, as text or as JSON, and on standard error.
 
 from reference.definitions import (
     RULES, Expectation, allows, dotted, expectation, in_order, is_meant, is_under, names_of, printed, runs, scope_places,
-    verdict,
+    span_of, verdict,
 )  # fmt: skip
 from reference.findings import finding_text, printed_json
 from reference.lines import logical_lines, open_quote, words_of
@@ -29,7 +29,7 @@ OUTSIDE = "is in no file system, nor is anything below it"
 
 
 class Fault:
-    """The first rule that the first faulty line of a text breaks, and the place of the slice at fault."""
+    """The first rule that a faulty line of a text breaks, and the place of the slice at fault."""
 
     def __init__(self, line, rule, place):
         self.line, self.rule, self.place = line, rule, place
@@ -37,14 +37,10 @@ class Fault:
 
 
 def read_expectations(text, site):
-    """What the lines of a text expect, whose names are those of a site; or the fault of the first line that has one."""
-    found = []
-    for line in logical_lines(text):
-        read = read_line(line, site)
-        if isinstance(read, Fault):
-            return read
-        found.append(read)
-    return found
+    """What the lines of a text expect, whose names are those of a site, and the faults of the lines that have one."""
+    found = [read_line(line, site) for line in logical_lines(text)]
+    faults = [read for read in found if isinstance(read, Fault)]
+    return [read for read in found if read not in faults], faults
 
 
 def read_line(line, site):
@@ -147,6 +143,18 @@ def outside_text(site, file, expectations):
     )
 
 
+def host_bits_text(file, expectations):
+    """A line for each network that is written with host bits, with the network that is meant."""
+    text = ""
+    for expected in expectations:
+        for name in [*(expected.whom or []), *expected.but]:
+            address, slash, prefix = name.partition("/")
+            first = dotted(span_of(name)[0]) if slash else None
+            if slash and first != ".".join([*address.split("."), "0", "0", "0"][:4]):
+                text += f"{file}:{expected.number}: {name} has host bits: {first}/{prefix} is meant\n"
+    return text
+
+
 def left_out_text(site):
     """A line for each file system in which a line has a client of an earlier one, which names the first such line: mountd may leave it
     out, and then answer otherwise."""
@@ -161,31 +169,35 @@ def left_out_text(site):
 # ---- the commands
 
 
-def fault_texts(file, fault):
-    """What is printed of a text with a fault on standard output, and on standard error."""
-    rule = f"{RULES.index(fault.rule) + 1} {fault.rule}"
-    return f"fault expectations {fault.text}\n", finding_text(file, fault.place, rule, SENTENCES[fault.rule])
+def fault_texts(file, faults):
+    """What is printed of a text with these faults on standard output, which names the first, and on standard error."""
+    told = ""
+    for fault in faults:
+        rule = f"{RULES.index(fault.rule) + 1} {fault.rule}"
+        told += finding_text(file, fault.place, rule, SENTENCES[fault.rule])
+    return f"fault expectations {faults[0].text}\n", told
 
 
 def answer(site, file, text, is_json=False):
     """What is printed of the expectations in this text of a site on standard output, on standard error, and the status: 0 if all
     hold, 1 if one is broken, and 3 if the text has a fault."""
-    expectations = read_expectations(text, site)
-    if isinstance(expectations, Fault):
-        return *fault_texts(file, expectations), 3
+    expectations, faults = read_expectations(text, site)
+    if faults:
+        return *fault_texts(file, faults), 3
     found = list(broken(site, expectations))
     text = report_json(file, found) if is_json else report_text(file, found, len(expectations))
-    return text, outside_text(site, file, expectations) + left_out_text(site), 1 if found else 0
+    beside = outside_text(site, file, expectations) + host_bits_text(file, expectations) + left_out_text(site)
+    return text, beside, 1 if found else 0
 
 
 def case_answer(question, site, text, names):
     """The answer to `expect` or `outside` in a file of cases, where names are looked up in tables of their own: what is reported,
     or of a text with a fault where the slice at fault is, in bytes."""
-    found = read_expectations(text, names)
-    if isinstance(found, Fault):
-        place = found.place
+    found, faults = read_expectations(text, names)
+    if faults:
+        fault, place = faults[0], faults[0].place
         first, last = (len(place.part.whole[:at].encode()) for at in (place.start, place.end))
-        return f"fault {found.text} at {place.part.number}:{first}-{last}"
+        return f"fault {fault.text} at {place.part.number}:{first}-{last}"
     if question == "outside":
         return outside_text(site, "expectations", found)
     return report_text("expectations", list(broken(site, found)), len(found))
