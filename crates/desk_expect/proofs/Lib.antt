@@ -5,6 +5,7 @@ pub mod FaultyLines
 pub mod Gathered
 pub mod Held
 pub mod Holding
+pub mod HostBits
 pub mod Joined
 pub mod Verdicts
 pub mod Lines

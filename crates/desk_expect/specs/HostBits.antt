@@ -1,12 +1,15 @@
 -- Networks in a text of expectations that are written with host bits. (this project's own)
-use Rattle.std.specs.Prelude.{ℕ, ◌==◌, ◌++◌, ◌∷◌, List, [], Option, Some, None, Result, Ok, Err, codes, if◌then◌else◌}
+use Rattle.std.specs.Prelude.{◌≡◌, ℕ, ◌==◌, ◌&&◌, ◌++◌, ◌∷◌, nat_le, List, [], Option, Some, None, Result, Ok, Err, codes, if◌then◌else◌}
 use Rattle.std.specs.Fmt.{decimal}
 use Rattle.std.specs.List.{flat_map}
 use Rattle.desk_text.specs.Address.{addr_text}
 use Rattle.desk_text.specs.Lines.{LogicalLine, logical_lines}
-use Rattle.desk_text.specs.Network.{Block, WrittenNet, block_of, read_net_text}
+use Rattle.desk_text.specs.Network.{Block, WrittenNet, block_of, last_of, read_net_text}
 use Rattle.desk_text.specs.declared.address.AddrFault.{AddrFault}
+use Rattle.desk_tables.specs.declared.hosts.HostRow.{HostRow}
+use Rattle.desk_netgroup.specs.declared.group_line.GroupLine.{GroupLine}
 use Rattle.desk_expect.specs.Form.{has_form, names}
+use Rattle.desk_expect.specs.Meaning.{means}
 use Rattle.desk_expect.specs.Reading.{line_values}
 use Rattle.desk_expect.specs.declared.rules.Rule.{Rule}
 
@@ -58,3 +61,9 @@ told_line file line = told_values file line.number (line_values line)
 -- A line for each network of a text that is written with host bits, in the order of the text.
 abbrev pub host_bits_text : List ℕ → List ℕ → List ℕ
 host_bits_text file text = flat_map (told_line file) (logical_lines text)
+
+-- A name whose network is told means just the addresses of that network.
+abbrev pub ToldNetworksAreMeant : Type 0
+ToldNetworksAreMeant =
+    (netgroups : List GroupLine) (hosts : List HostRow) (name : List ℕ) (net : Block) (address : ℕ) → net_meant name ≡ Some net
+    → means netgroups hosts name address ≡ (nat_le net.first address && nat_le address (last_of net))

@@ -1,6 +1,7 @@
 //! What the definitions of this crate keep, each as a function that does nothing.
 
 ghost use Rattle.desk_expect.specs.FaultyLines.{FirstOfFaultsIsReported};
+ghost use Rattle.desk_expect.specs.HostBits.{ToldNetworksAreMeant};
 ghost use Rattle.desk_expect.specs.Laws.{NoBrokenIsAllHold, NoneBrokenIsAllHold, UnreportedLinesHold};
 ghost use Rattle.desk_expect.specs.Outside.{OutsideIsDenied};
 
@@ -36,4 +37,9 @@ pub fn outside_is_denied()
 /// A text is refused with a fault exactly if that is the first of its faults.
 pub fn first_of_faults_is_reported()
     ensures { FirstOfFaultsIsReported }
+{}
+
+/// A name whose network is told, since it is written with host bits, means just the addresses of that network.
+pub fn told_networks_are_meant()
+    ensures { ToldNetworksAreMeant }
 {}

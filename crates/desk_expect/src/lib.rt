@@ -35,7 +35,7 @@ pub use host_bits::host_bits_text;
 pub use judging::Judged;
 pub use laws::{
     first_of_faults_is_reported, no_broken_is_all_hold, none_broken_is_all_hold, outside_is_denied,
-    unreported_lines_hold,
+    told_networks_are_meant, unreported_lines_hold,
 };
 pub use outside::{Outside, find_outside, outside_text};
 pub use reading::read_expectations;
