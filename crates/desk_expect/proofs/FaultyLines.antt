@@ -1,5 +1,5 @@
 -- All faults of a text of expectations, line by line.
-use Rattle.std.proofs.Common.{◌≡◌, ◌↔◌, ◌∙◌, ℕ, ◌+◌, ◌<◌, ◌++◌, ◌∷◌, List, [], Option, Some, None, Result, Ok, Err, ap, get_or, length, map, refl, subst, sym, take}
+use Rattle.std.proofs.Common.{◌≡◌, ◌↔◌, ◌∙◌, ℕ, ◌+◌, ◌<◌, ◌++◌, ◌∷◌, List, [], Option, Some, None, Result, Ok, Err, ap, get_or, length, map, subst, sym, take}
 use Rattle.std.specs.Prelude.{slice_get}
 use Rattle.std.specs.List.{All, IsAmong, cons_option, filter_map}
 use Rattle.std.proofs.lemmas.List.{map-append, map_more}

@@ -32,8 +32,8 @@ no_net (Err fault) net is = absurd (cc)
 
 slash_if : (name : List ℕ) (net : Block) → net_meant name ≡ Some net → has_slash name ≡ true
 slash_if name net is = elim (cases_Bool (has_slash name)) as (λ _. has_slash name ≡ true) [
-  | inl yes ↦ yes
-  | inr no ↦ absurd (no_net (read_short name) net (sym (ap net_in (cond-false (has_slash name) _ _ no)) ∙ is))
+  | inl has ↦ has
+  | inr lacks ↦ absurd (no_net (read_short name) net (sym (ap net_in (cond-false (has_slash name) _ _ lacks)) ∙ is))
 ]
 
 pub told_is_meant : ToldNetworksAreMeant

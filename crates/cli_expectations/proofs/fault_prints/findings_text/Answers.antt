@@ -1,10 +1,10 @@
-use Rattle.std.proofs.Common.{[], ◌++◌, ◌∙◌, List, ap, map, subst, sym, ℕ}
+use Rattle.std.proofs.Common.{[], ◌++◌, ◌∙◌, List, ap, map, ℕ}
 use Rattle.std.specs.List.{flat_map}
 use Rattle.std.specs.String.{string_bytes}
 use Rattle.std.proofs.lemmas.List.{take_all}
 use Rattle.desk_expect.specs.declared.rules.PlacedFault.{PlacedFault}
 use Rattle.cli_expectations.specs.FaultPrints.{finding_text}
-use Rattle.cli_expectations.specs.PrivateFaultPrints.{LiesAmong, finding_among}
+use Rattle.cli_expectations.specs.PrivateFaultPrints.{finding_among}
 use Rattle.cli_expectations.proofs.Gathered.{gathers}
 use Rattle.cli_expectations.proofs.fault_prints.findings_text.Goals as goal
 
