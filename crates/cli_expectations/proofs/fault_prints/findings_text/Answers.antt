@@ -1,12 +1,18 @@
-use Rattle.std.proofs.Common.{[], ◌++◌, ◌∙◌, List, ap, map, ℕ}
+use Rattle.std.proofs.Common.{[], ◌++◌, ◌∙◌, List, ap, map, subst, sym, ℕ}
 use Rattle.std.specs.List.{flat_map}
 use Rattle.std.specs.String.{string_bytes}
 use Rattle.std.proofs.lemmas.List.{take_all}
+use Rattle.desk_text.specs.Place.{LiesWithin}
 use Rattle.desk_expect.specs.declared.rules.PlacedFault.{PlacedFault}
 use Rattle.cli_expectations.specs.FaultPrints.{finding_text}
-use Rattle.cli_expectations.specs.PrivateFaultPrints.{finding_among}
+use Rattle.cli_expectations.specs.PrivateFaultPrints.{LiesAmong, finding_among}
 use Rattle.cli_expectations.proofs.Gathered.{gathers}
 use Rattle.cli_expectations.proofs.fault_prints.findings_text.Goals as goal
+
+pub push_finding-requires : goal.push_finding-requires
+push_finding-requires c =
+    subst (λ (line : List ℕ). LiesWithin line c.placed-item.result.place) (sym c.line_at.ensures)
+    (subst (LiesAmong (map (λ line. line.now) c.args.lines.now)) (sym c.placed-item.is) (c.requires c.loop-placed.placed-index c.placed-item.result c.loop-placed-test.true))
 
 pub loop-placed-preserved : goal.loop-placed-preserved
 loop-placed-preserved c =
