@@ -91,10 +91,22 @@ fn push_meant(
 ) -> Result<(), AllocError>
     ensures { OnOk result (string_bytes told.new ≡ string_bytes told.old ++ spec.meant_line file.now number name.now net) }
 {
+    push_written(file, number, name, told)?;
+    push_net(net, told)
+}
+
+/// Adds where a name stands, and that it has host bits.
+fn push_written(file: &str, number: u32, name: &str, told: &mut String) -> Result<(), AllocError>
+    ensures { OnOk result (string_bytes told.new ≡ string_bytes told.old ++ spec.name_text file.now number name.now) }
+{
+    write!(told, "{file}:{number}: {name} has host bits: ")
+}
+
+/// Adds the network that is meant.
+fn push_net(net: Net, told: &mut String) -> Result<(), AllocError>
+    ensures { OnOk result (string_bytes told.new ≡ string_bytes told.old ++ spec.net_text net) }
+{
     let first = net.first();
     let prefix = net.prefix().get();
-    write!(
-        told,
-        "{file}:{number}: {name} has host bits: {first}/{prefix} is meant\n"
-    )
+    write!(told, "{first}/{prefix} is meant\n")
 }
