@@ -1,15 +1,13 @@
--- The network that is told is what the name means; and what is told of the words of a line.
-use Rattle.std.proofs.Common.{◌≡◌, ◌==◌, ◌++◌, ◌∙◌, [], ℕ, Bool, true, false, List, Option, Some, None, Result, Ok, Err, ap, inl, inr, sym, if◌then◌else◌}
+-- The network that is told is what the name means.
+use Rattle.std.proofs.Common.{◌≡◌, ◌==◌, ◌∙◌, ℕ, Bool, true, false, List, Option, Some, None, Result, Ok, Err, ap, inl, inr, sym, if◌then◌else◌}
 use Rattle.std.specs.Prelude.{◌&&◌, nat_le}
-use Rattle.std.specs.List.{after_first, before_first, flat_map, list_any}
-use Rattle.std.proofs.lemmas.Bool.{cases_Bool, cond-false, cond-true, or_left}
-use Rattle.std.proofs.lemmas.Grind.{flat_map-append}
+use Rattle.std.specs.List.{after_first, before_first, list_any}
+use Rattle.std.proofs.lemmas.Bool.{cases_Bool, cond-false, or_left}
 use Rattle.desk_text.specs.Address.{read_short}
 use Rattle.desk_text.specs.Network.{Block, WrittenNet, block_of, last_of, read_net_text, with_addr}
 use Rattle.desk_text.specs.declared.address.AddrFault.{AddrFault}
 use Rattle.desk_policy.specs.Names.{stands_for}
-use Rattle.desk_expect.specs.Form.{but, has_form, named, names, whom}
-use Rattle.desk_expect.specs.HostBits.{ToldNetworksAreMeant, net_around, net_in, net_meant, told_name, told_words, unless_first}
+use Rattle.desk_expect.specs.HostBits.{ToldNetworksAreMeant, net_around, net_in, net_meant, unless_first}
 use Rattle.desk_expect.specs.Names.{has_slash, is_between, is_range_like, is_span_like, net_span, network_span, range_span, span_of, written_span}
 
 kept_by : (first : Bool) (block net : Block) → (if first then None else Some block) ≡ Some net → block ≡ net
@@ -45,15 +43,3 @@ told_is_meant netgroups hosts name net address is =
     ap (λ (b : Bool). if b then is_between (span_of name) address else stands_for netgroups hosts name address) like
     ∙ ap (λ (b : Bool). is_between (if b then network_span name else (if list_any (λ c. c == 45) name then range_span (before_first (λ c. c == 45) name) (after_first (λ c. c == 45) name) else None)) address) slash
     ∙ meant_of (read_net_text name) net address is
-
--- ---- what is told of the words of a line
-pub told_of_form : (file : List ℕ) (line : ℕ) (words own others : List (List ℕ)) → has_form words ≡ true → own ≡ named (whom words) → others ≡ but words
-    → flat_map (told_name file line) own ++ flat_map (told_name file line) others ≡ told_words file line words
-told_of_form file line words own others formed own_is others_is =
-    sym (flat_map-append (told_name file line) own others)
-    ∙ ap (λ (front : List (List ℕ)). flat_map (told_name file line) (front ++ others)) own_is
-    ∙ ap (λ (rest : List (List ℕ)). flat_map (told_name file line) (named (whom words) ++ rest)) others_is
-    ∙ sym (cond-true (has_form words) (flat_map (told_name file line) (names words)) [] formed)
-
-pub told_of_none : (file : List ℕ) (line : ℕ) (words : List (List ℕ)) → has_form words ≡ false → [] ≡ told_words file line words
-told_of_none file line words formless = sym (cond-false (has_form words) (flat_map (told_name file line) (names words)) [] formless)

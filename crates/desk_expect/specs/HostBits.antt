@@ -31,17 +31,17 @@ net_in (Err fault) = None
 abbrev pub net_meant : List ℕ → Option Block
 net_meant name = net_in (read_net_text name)
 
--- where a name stands, and that it has host bits, as `promises:3: 10.1.0.5/24 has host bits: `
+-- a name, and where it stands, as `promises:3: 10.1.0.5/24`
 abbrev pub name_text : List ℕ → ℕ → List ℕ → List ℕ
-name_text file line name = file ++ 58 ∷ decimal line ++ codes ": " ++ name ++ codes " has host bits: "
+name_text file line name = file ++ 58 ∷ decimal line ++ codes ": " ++ name
 
 -- the network that is meant, as `10.1.0.0/24 is meant`
 abbrev pub net_text : Block → List ℕ
 net_text net = addr_text net.first ++ 47 ∷ decimal net.prefix ++ codes " is meant\n"
 
--- the line that tells it
+-- the line that tells it, as `promises:3: 10.1.0.5/24 has host bits: 10.1.0.0/24 is meant`
 abbrev pub meant_line : List ℕ → ℕ → List ℕ → Block → List ℕ
-meant_line file line name net = name_text file line name ++ net_text net
+meant_line file line name net = name_text file line name ++ codes " has host bits: " ++ net_text net
 
 abbrev pub told_net : List ℕ → ℕ → List ℕ → Option Block → List ℕ
 told_net file line name (Some net) = meant_line file line name net

@@ -92,14 +92,15 @@ fn push_meant(
     ensures { OnOk result (string_bytes told.new ≡ string_bytes told.old ++ spec.meant_line file.now number name.now net) }
 {
     push_written(file, number, name, told)?;
+    told.push_str(" has host bits: ")?;
     push_net(net, told)
 }
 
-/// Adds where a name stands, and that it has host bits.
+/// Adds a name, and where it stands.
 fn push_written(file: &str, number: u32, name: &str, told: &mut String) -> Result<(), AllocError>
     ensures { OnOk result (string_bytes told.new ≡ string_bytes told.old ++ spec.name_text file.now number name.now) }
 {
-    write!(told, "{file}:{number}: {name} has host bits: ")
+    write!(told, "{file}:{number}: {name}")
 }
 
 /// Adds the network that is meant.
