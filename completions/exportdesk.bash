@@ -18,7 +18,8 @@ _exportdesk()
         no:--as | no:--base | no:--caller | no:--connections | \
             no:--group | no:--hosts | no:--ignore | no:--key | \
             no:--key-file | no:--mounts | no:--netgroup | no:--networks | \
-            no:--passwd | no:--port | no:--rev | no:--timeout) is_value=yes ;;
+            no:--passwd | no:--port | no:--proposal | no:--rev | \
+            no:--timeout) is_value=yes ;;
         yes:=) ;;
         yes:*) is_value=no ;;
         no::) count=$((count - 1)) ;;
@@ -37,7 +38,7 @@ _exportdesk()
     ask) choices='--as --why --mountd --help' ;;
     exports) choices='--terms --help' ;;
     who) choices='--mountd --help' ;;
-    put) choices='--base --caller --key --key-file --help' ;;
+    put) choices='--proposal --base --caller --key --key-file --help' ;;
     impact) choices='--all --proposal --help' ;;
     audit) choices='--proposal --json --help' ;;
     cat) choices='--rev --help' ;;
@@ -75,8 +76,8 @@ _exportdesk()
         mapfile -t COMPREPLY < <(compgen -d -- "$word")
         ;;
     ask:--as:* | cat:--rev:* | check:--ignore:* | put:--base:* | \
-        put:--caller:* | put:--key:* | serve:--connections:* | serve:--port:* | \
-        serve:--timeout:* | try:--as:*) ;;
+        put:--caller:* | put:--key:* | put:--proposal:* | serve:--connections:* | \
+        serve:--port:* | serve:--timeout:* | try:--as:*) ;;
     *:-?*) mapfile -t COMPREPLY < <(compgen -W "$choices" -- "$word") ;;
     *)
         case $command:$count in

@@ -20,6 +20,7 @@ use Rattle.desk_store.specs.declared.error.CreateError.{CreateError}
 use Rattle.desk_store.specs.declared.error.CreateError.TheVariants as create
 use Rattle.desk_store.specs.declared.error.DeskError.{DeskError}
 use Rattle.desk_store.specs.declared.error.DeskError.TheVariants as error
+use Rattle.desk_service.specs.Approving.{Approval}
 use Rattle.desk_service.specs.Questions as given
 use Rattle.desk_service.specs.Refused.{refused_by}
 use Rattle.desk_service.specs.Sites.{WholeSite}
@@ -416,12 +417,32 @@ puts_key words base None known result is = after result is (λ texts is. puts_te
 
 puts_base : (words : put.PutWords) (base : Option ℕ) (known : Option (List ℕ)) (result : Result Printed Failure) → put.AnswersPutBase words base known result → Fine result
 puts_base words None known result is = err_and _ result is
-puts_base words (Some base) known result is = puts_key words base (put.key_fault words.file words.key words.key_file) known result is
+puts_base words (Some base) known result is = puts_key words base (put.key_fault (Some words.file) words.key words.key_file) known result is
+
+puts_file : (file : List ℕ) (rows : List Row) (known : Option (List ℕ)) (result : Result Printed Failure) → put.AnswersPutFile file rows known result → Fine result
+puts_file file rows known result is =
+    word _ _ (first_of (codes "DB") rows) result is (λ db is. word _ _ (first_of (codes "NAME") rows) result is (λ name is.
+    word _ _ (first_of (codes "base") rows) result is (λ base is. word _ _ (first_of (codes "caller") rows) result is (λ caller is. puts_base (record { db = db; name = name; file = file; base = base; caller = caller; key = first_of (codes "key") rows; key_file = first_of (codes "key-file") rows }) (revision_number base) known result is))))
+
+puts_approval : (path : List ℕ) (approval : Approval) (result : Result Printed Failure) → put.AnswersApproval path approval result → Fine result
+puts_approval path approval result (inl none) = no_desk path result none
+puts_approval path approval result (inr (inl put)) = put_prints put.puts.answer result put.puts.prints
+puts_approval path approval result (inr (inr refused)) = refuses refused.why result refused.prints
+
+puts_proposal : (digest : List ℕ) (rows : List Row) (known : Option (List ℕ)) (result : Result Printed Failure) → put.AnswersPutProposal digest rows known result → Fine result
+puts_proposal digest rows known result is =
+    word _ _ (first_of (codes "DB") rows) result is (λ db is. word _ _ (first_of (codes "NAME") rows) result is (λ name is.
+    word _ _ (first_of (codes "base") rows) result is (λ base is. word _ _ (first_of (codes "caller") rows) result is (λ caller is.
+    after result is (λ number is. after result is (λ fine is. after result is (λ fine is. after result is (λ text is. puts_approval db _ result is.2))))))))
+
+puts_by : (file digest : Option (List ℕ)) (rows : List Row) (known : Option (List ℕ)) (result : Result Printed Failure) → put.AnswersPutBy file digest rows known result → Fine result
+puts_by (Some file) (Some digest) rows known result is = fails result _ is
+puts_by (Some file) None rows known result is = puts_file file rows known result is
+puts_by None (Some digest) rows known result is = puts_proposal digest rows known result is
+puts_by None None rows known result is = err_and _ result is
 
 puts : (rows : List Row) (known : Option (List ℕ)) (result : Result Printed Failure) → put.AnswersPut rows known result → Fine result
-puts rows known result is =
-    word _ _ (first_of (codes "DB") rows) result is (λ db is. word _ _ (first_of (codes "NAME") rows) result is (λ name is. word _ _ (first_of (codes "FILE") rows) result is (λ file is.
-    word _ _ (first_of (codes "base") rows) result is (λ base is. word _ _ (first_of (codes "caller") rows) result is (λ caller is. puts_base (record { db = db; name = name; file = file; base = base; caller = caller; key = first_of (codes "key") rows; key_file = first_of (codes "key-file") rows }) (revision_number base) known result is)))))
+puts rows known result is = puts_by (first_of (codes "FILE") rows) (first_of (codes "proposal") rows) rows known result is
 
 -- ---- files of a database, and its service
 

@@ -16,7 +16,7 @@ ghost use Rattle.cli_questions.specs.Questions.{asked_of, exports_text, file_in,
 
 use crate::answering::{Asked, Printer};
 use crate::file_lines::files_text;
-use crate::notes::{foreseen_note, no_revision_note, proposal_note, refusal_note, text_note};
+use crate::notes::{foreseen_note, no_revision_note, proposal_text_note, refusal_note, text_note};
 use crate::revision_lines::log_text;
 use cli_desk::View;
 use cli_desk::desks::CopiedDesk;
@@ -176,11 +176,11 @@ fn print_revision(alloc: Global, name: &str, text: &FileText) -> Result<Printed,
     })
 }
 
-/// Prints the text of a proposal. Standard error says who proposes it, and on which revision.
+/// Prints the text of a proposal. Standard error says who proposes it, on which revision, and the digest of the text.
 fn print_proposal(alloc: Global, name: &str, proposal: &ProposalText) -> Result<Printed, Failure>
     ensures { PrintsText 0 proposal.now.body result }
 {
-    let note = proposal_note(alloc, name, proposal.author.as_str(), proposal.base)?;
+    let note = proposal_text_note(alloc, name, proposal)?;
     let body = String::from_str(alloc, proposal.body.as_str())?;
     Ok(Printed {
         status: 0,

@@ -67,7 +67,7 @@ commands =
     ∷ row subcommand.Show (codes "show") (word (codes "DB") ∷ word (codes "HOST") ∷ []) false []
     ∷ row subcommand.Exports (codes "exports") (word (codes "DB") ∷ []) false (flag (codes "terms") ∷ [])
     ∷ row subcommand.Who (codes "who") (word (codes "DB") ∷ word (codes "DIR") ∷ []) false (flag (codes "mountd") ∷ [])
-    ∷ row subcommand.Put (codes "put") (word (codes "DB") ∷ word (codes "NAME") ∷ word (codes "FILE") ∷ []) false (required_option (codes "base") ∷ required_option (codes "caller") ∷ option (codes "key") ∷ option (codes "key-file") ∷ [])
+    ∷ row subcommand.Put (codes "put") (word (codes "DB") ∷ word (codes "NAME") ∷ optional_word (codes "FILE") ∷ []) false (option (codes "proposal") ∷ required_option (codes "base") ∷ required_option (codes "caller") ∷ option (codes "key") ∷ option (codes "key-file") ∷ [])
     ∷ row subcommand.Impact (codes "impact") (word (codes "DB") ∷ word (codes "NAME") ∷ optional_word (codes "FILE") ∷ []) false (flag (codes "all") ∷ flag (codes "proposal") ∷ [])
     ∷ row subcommand.Audit (codes "audit") (word (codes "DB") ∷ word (codes "EXPECTATIONS") ∷ optional_word (codes "NAME") ∷ optional_word (codes "FILE") ∷ []) false (flag (codes "proposal") ∷ flag (codes "json") ∷ [])
     ∷ row subcommand.Log (codes "log") (word (codes "DB") ∷ word (codes "NAME") ∷ []) false []

@@ -372,12 +372,17 @@ pub const COMMANDS: &[CommandRow] = &[
             NAME,
             Argument {
                 name: "FILE",
-                kind: Kind::Word,
+                kind: Kind::MaybeWord,
                 help: "The new text; - is standard input",
             },
         ],
         tables: false,
         options: &[
+            Argument {
+                name: "proposal",
+                kind: Kind::Valued("DIGEST"),
+                help: "Takes the pending proposal of the file for the new text, if its SHA-256 is this",
+            },
             Argument {
                 name: "base",
                 kind: Kind::Needed("N"),

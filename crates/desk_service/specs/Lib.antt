@@ -1,3 +1,4 @@
+pub mod Approving
 pub mod Edits
 pub mod Files
 pub mod Foreseeing

@@ -9,6 +9,7 @@
 #![tactic(auto)]
 
 pub mod answering;
+pub mod approving;
 pub mod edits;
 pub mod files;
 pub mod foreseeing;
@@ -22,6 +23,7 @@ pub mod sites;
 mod texts;
 
 pub use answering::{answer, look_up};
+pub use approving::{Approval, approved_text, digest_of};
 pub use edits::{Replies, put};
 pub use files::{ListedFile, ListedFiles, Mark};
 pub use foreseeing::Foreseen;

@@ -4,18 +4,18 @@ use Rattle.std.specs.Option.{option_map}
 use Rattle.std.specs.String.{string_bytes}
 use Rattle.std.proofs.lemmas.Result.{err_from_is_err_and}
 use Rattle.cli_edits.specs.PutCommand.{AnswersEdit, IsKey}
-use Rattle.cli_edits.proofs.put_command.run_put.Goals as goal
+use Rattle.cli_edits.proofs.put_command.put_file.Goals as goal
 
 pub returns-in_err-text : goal.returns-in_err-text
 returns-in_err-text g c =
     let p = err_from_is_err_and c.from_residual-in_err-text.result c.from_residual-in_err-text.ensures.1 in
-    rw (p.1, p.2, c.in_ok-db.ensures, c.in_ok-name.ensures, c.in_ok-file.ensures, c.in_ok-base.ensures, c.in_ok-caller.ensures, c.in_ok-base-2.ensures, ← c.given-key.ensures, ← c.given-key_file.ensures, c.in_ok-check_key.ensures)
+    rw (p.1, p.2, c.in_ok-db.ensures, c.in_ok-name.ensures, c.in_ok-base.ensures, c.in_ok-caller.ensures, c.in_ok-base-2.ensures, ← c.given-key.ensures, ← c.given-key_file.ensures, c.in_ok-check_key.ensures)
     (record { step = Err _; is = inl c.in_err-text.ensures.text; next = refl })
 
 pub returns-in_err-key_text : goal.returns-in_err-key_text
 returns-in_err-key_text g c =
     let p = err_from_is_err_and c.from_residual-in_err-key_text.result c.from_residual-in_err-key_text.ensures.1 in
-    rw (p.1, p.2, c.in_ok-db.ensures, c.in_ok-name.ensures, c.in_ok-file.ensures, c.in_ok-base.ensures, c.in_ok-caller.ensures, c.in_ok-base-2.ensures, ← c.given-key.ensures, ← c.given-key_file.ensures, c.in_ok-check_key.ensures)
+    rw (p.1, p.2, c.in_ok-db.ensures, c.in_ok-name.ensures, c.in_ok-base.ensures, c.in_ok-caller.ensures, c.in_ok-base-2.ensures, ← c.given-key.ensures, ← c.given-key_file.ensures, c.in_ok-check_key.ensures)
     (record {
       step = Err _;
       is = inr (string_bytes c.in_ok-text.text, g.I.Read.remaining c.read_if_given.new.input, (c.in_ok-text.ensures.text, (c.read_if_given.ensures.left, inl c.in_err-key_text.ensures.text)));
@@ -28,7 +28,7 @@ returns g c =
     let key_text = string_bytes c.in_ok-key_text.key_text in
     let key = c.key_of-key.result.now in
     let word = option_map (λ (word : Bor (List ℕ)). word.now) c.given-key.result in
-    rw (c.in_ok-db.ensures, c.in_ok-name.ensures, c.in_ok-file.ensures, c.in_ok-base.ensures, c.in_ok-caller.ensures, c.in_ok-base-2.ensures, ← c.given-key.ensures, ← c.given-key_file.ensures, c.in_ok-check_key.ensures)
+    rw (c.in_ok-db.ensures, c.in_ok-name.ensures, c.in_ok-base.ensures, c.in_ok-caller.ensures, c.in_ok-base-2.ensures, ← c.given-key.ensures, ← c.given-key_file.ensures, c.in_ok-check_key.ensures)
     (record {
       step = Ok (text ∷ key_text ∷ []);
       is = (
