@@ -1,7 +1,7 @@
 -- What the words of a command stand for: an address, a path, the mount points of the file systems, a credential, a digest, a number.
 -- (this project's own)
-use Rattle.std.specs.Prelude.{◌≡◌, ℕ, ◌==◌, ◌&&◌, ◌||◌, nat_le, Bool, not, codes, length, List, Option, Some, None, Result, Ok, Err, find, is_ok, if◌then◌else◌, option_and_then}
-use Rattle.std.specs.Char.{is_ascii_digit}
+use Rattle.std.specs.Prelude.{◌≡◌, ℕ, ◌==◌, ◌&&◌, Bool, not, codes, length, List, Option, Some, None, Result, Ok, Err, find, is_ok, if◌then◌else◌, option_and_then}
+use Rattle.std.specs.Char.{is_ascii_hexdigit, is_ascii_uppercase}
 use Rattle.std.specs.List.{filter_map, list_all}
 use Rattle.std.specs.Result.{result_ok}
 use Rattle.std.specs.String.{string_bytes}
@@ -75,7 +75,7 @@ IsBadNumber argument word other = IsRefusal argument word (fault.Number 0 214748
 
 -- a hexadecimal digit, and no capital letter
 abbrev pub is_small_digit : ℕ → Bool
-is_small_digit b = is_ascii_digit b || (nat_le 97 b && nat_le b 102)
+is_small_digit b = is_ascii_hexdigit b && not (is_ascii_uppercase b)
 
 -- a word is a digest of a text, as it is told: 64 hexadecimal digits, the letters small
 abbrev pub is_digest : List ℕ → Bool

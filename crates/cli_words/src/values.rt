@@ -97,7 +97,7 @@ fn is_digest(word: &str) -> bool
 fn is_small_digit(b: u8) -> bool
     ensures { result ≡ is_small_digit b }
 {
-    b.is_ascii_digit() || (97..=102).contains(&b)
+    b.is_ascii_hexdigit() && !b.is_ascii_uppercase()
 }
 
 /// Parses the number of a port: from 1 to 65,535.
