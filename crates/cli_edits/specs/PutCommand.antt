@@ -8,8 +8,7 @@ use Rattle.sqlite_trees.specs.declared.store.Store.{Ghosts}
 use Rattle.sqlite.specs.Held.{state}
 use Rattle.desk_core.specs.Edit.{Edit}
 use Rattle.desk_core.specs.Site.{IsConsistent, site_in}
-use Rattle.desk_core.specs.Standing.{Standing}
-use Rattle.desk_core.specs.State.{standing}
+use Rattle.desk_core.specs.Standing.{Standing, standing_in}
 use Rattle.desk_store.specs.Desk.{AnswersBy, IsEdited, Shown}
 use Rattle.desk_store.specs.declared.desk.Done.{Done}
 use Rattle.desk_store.specs.declared.error.DeskError.{DeskError}
@@ -78,7 +77,7 @@ PutsFound g old new a replies result (Err why) = (new ≡ old) × IsRefused why 
 
 -- The text that waits in an opened desk was put into it, if it has the digest of an approval; or memory ran out before that.
 abbrev pub PrintsApproval : {S V A : Type 0} → Ghosts S → Shown S V → Shown S V → Approval → Replies (String A) → Result Printed Failure → Type 0
-PrintsApproval g old new a replies result = ((new ≡ old) × (result ≡ Err Memory)) ⊎ PutsFound g old new a replies result (text_in (standing old.state) a)
+PrintsApproval g old new a replies result = ((new ≡ old) × (result ≡ Err Memory)) ⊎ PutsFound g old new a replies result (text_in (standing_in old.state.heads old.state.proposals) a)
 
 -- An edit is judged by how files stand in some desk, whose newest revisions write a consistent site, and its answer is printed. Which
 -- desk that was, no clause can name, since the connection to its database is made and dropped inside.
@@ -197,7 +196,7 @@ ReadsKeyFile key_file known step = MatchResult step (HasTextIfGiven (codes "--ke
 abbrev pub AnswersPutProposal : List ℕ → List Row → Option (List ℕ) → Result Printed Failure → Type 0
 AnswersPutProposal digest rows known =
     ByWord (codes "DB") rows (λ db. ByWord (codes "NAME") rows (λ name. ByWord (codes "base") rows (λ word. ByWord (codes "caller") rows (λ caller.
-    After (ParsesBase word) (λ base. After (TakesDigest digest) (λ fine. After (TakesKey (first_of (codes "key") rows) (first_of (codes "key-file") rows)) (λ fine.
+    After (ParsesBase word) (λ base. After (TakesDigest digest) (λ fine. After (TakesKey (first_of (codes "key") rows) (first_of (codes "key-file") rows)) (λ once.
     After (ReadsKeyFile (first_of (codes "key-file") rows) known) (λ text result. (key : List ℕ) × IsKey (first_of (codes "key") rows) text key
     × AnswersApproval db (record { file = name; base = base; caller = caller; key = key; digest = digest }) result))))))))
 
