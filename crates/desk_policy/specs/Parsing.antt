@@ -113,6 +113,7 @@ content_with table site_tables files = record {
   table = table;
   rows = map (λ file. file.rows) files;
   warnings = netgroup_warnings site_tables.netgroups site_tables.hosts ++ flat_map (λ file. file.warnings) files;
+  origins = [];
 }
 
 -- the policy that the exports files write, with these file systems and tables
