@@ -39,7 +39,7 @@ custodians_of texts = result_unwrap_or (read_custodians texts.files.custodians) 
 
 abbrev pub policy_read : Result Content SiteFault → Content
 policy_read (Ok policy) = policy
-policy_read (Err fault) = record { table = []; rows = []; warnings = [] }
+policy_read (Err fault) = record { table = []; rows = []; warnings = []; origins = [] }
 
 -- the policy of a site; an empty one if a file is faulty
 abbrev pub policy_of : SiteTexts → Content

@@ -50,9 +50,9 @@ AscendingEntriesAscendInEachFile = (placed : List (FsId × Entry)) → EntriesAs
 abbrev pub with_rows : Content → ℕ → List Row → Content
 with_rows content fs rows = record { table = content.table; rows = slice_set content.rows fs rows; warnings = content.warnings; origins = content.origins }
 
--- a policy, with the lines that another has for one file system in place of its own
+-- a policy, with the lines that another has for one file system in place of its own, and the texts that those are of
 abbrev pub with_lines_of : Content → ℕ → Content → Content
-with_lines_of content fs other = with_rows content fs (rows_of other fs)
+with_lines_of content fs other = record { table = content.table; rows = slice_set content.rows fs (rows_of other fs); warnings = content.warnings; origins = other.origins }
 
 -- the policy with these file systems of which one has these lines, and no other has any; nothing is warned of
 abbrev pub content_of_lines : List Mount → ℕ → List Row → Content

@@ -230,7 +230,7 @@ fn read_policy(
         &mut rows,
         &mut warnings,
     ) {
-        Ok(()) => Ok(Policy::of_parts(filesystems, rows, warnings)),
+        Ok(()) => Ok(Policy::of_parts(alloc, filesystems, rows, warnings)),
         Err(error) => Err(error),
     }
 }
@@ -248,9 +248,9 @@ fn push_policy(
     requires few { length filesystems.now ≤ 256 }
     requires rows { rows.old.items ≡ [] }
     requires warnings { warnings.old ≡ [] }
-    ensures read { ReadsAs (λ done. record { table = filesystems.now; rows = rows.new.items; warnings = warnings.new }) result
+    ensures read { ReadsAs (λ done. record { table = filesystems.now; rows = rows.new.items; warnings = warnings.new; origins = [] }) result
         (spec.read_policy (texts_of site.now) filesystems.now site_tables.now) }
-    ensures content { OnOk result (IsContent (record { table = filesystems.now; rows = rows.new.items; warnings = warnings.new })) }
+    ensures content { OnOk result (IsContent (record { table = filesystems.now; rows = rows.new.items; warnings = warnings.new; origins = [] })) }
 {
     push_netgroup(alloc, &site_tables.netgroups, &site_tables.hosts, warnings)?;
     let mut known = KnownNames::new(alloc);
