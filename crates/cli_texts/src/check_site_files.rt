@@ -72,6 +72,7 @@ fn custodians_of<'a>(folder: &'a SiteFolder, text: &'a Option<String>) -> Option
         Some(text) => Some(Source {
             path: folder.paths.custodians.as_str(),
             text: text.as_str(),
+            origins: &[],
         }),
         None => None,
     }
@@ -109,6 +110,7 @@ fn check_folder<I: BufRead>(
             let source = Source {
                 path: folder.paths.filesystems.as_str(),
                 text: text.as_str(),
+                origins: &[],
             };
             check_texts(rt.alloc(), asked, Systems::Listed(source), whole)
         }

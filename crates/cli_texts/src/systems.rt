@@ -111,6 +111,7 @@ fn read_folder<I: BufRead>(
             let source = Source {
                 path: folder.paths.filesystems.as_str(),
                 text: text.as_str(),
+                origins: &[],
             };
             Ok(read_listed(rt.alloc(), source)?)
         }

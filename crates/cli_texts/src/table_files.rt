@@ -185,9 +185,18 @@ pub fn table_sources<'a>(
 pub fn source_of<'a>(file: TextFile<'a>, text: &'a str) -> Source<'a>
     ensures path { result.path.now ≡ unwrap_or (named file.entry).1 [] }
     ensures text { result.text.now ≡ text.entry.now }
+    ensures origins { result.origins.now ≡ [] }
 {
     match file.path {
-        Some(path) => Source { path, text },
-        None => Source { path: "", text },
+        Some(path) => Source {
+            path,
+            text,
+            origins: &[],
+        },
+        None => Source {
+            path: "",
+            text,
+            origins: &[],
+        },
     }
 }

@@ -3,7 +3,7 @@ use Rattle.std.specs.Prelude.{◌⊎◌, ℕ, ◌++◌, Bool, true, false, List,
 use Rattle.std.specs.Str.{bytes_eq}
 use Rattle.clap.specs.Lexer.{usize_max}
 use Rattle.clap.specs.Words.{App, IsAmong, Kinds, Row, Rule, fault_of, new_app, new_rule, subcommand_of, with_rule, with_subcommand}
-use Rattle.clap.specs.declared.builder.ArgAction.TheVariants.{Set, SetTrue}
+use Rattle.clap.specs.declared.builder.ArgAction.TheVariants.{Append, Set, SetTrue}
 use Rattle.clap.specs.declared.error.ErrorKind.TheVariants.{DisplayHelp, DisplayVersion}
 use Rattle.cli_words.specs.declared.arguments.Argument.{Argument}
 use Rattle.cli_words.specs.declared.arguments.Kind.{Kind}
@@ -32,6 +32,10 @@ option name = record (new_rule name) { long = Some name; action = Some Set; valu
 abbrev pub required_option : List ℕ → Rule
 required_option name = record (option name) { required = true }
 
+-- an option with one value that may be given more than once
+abbrev pub repeated_option : List ℕ → Rule
+repeated_option name = record (option name) { action = Some Append }
+
 -- an option without a value
 abbrev pub flag : List ℕ → Rule
 flag name = record (new_rule name) { long = Some name; action = Some SetTrue }
@@ -51,17 +55,21 @@ row command name words tables options = record { command = command; name = name;
 abbrev pub table_options : List Rule
 table_options = option (codes "hosts") ∷ option (codes "networks") ∷ option (codes "passwd") ∷ option (codes "group") ∷ option (codes "netgroup") ∷ option (codes "mounts") ∷ option (codes "site") ∷ []
 
+-- the options that name more exports files
+abbrev more_options : List Rule
+more_options = repeated_option (codes "and") ∷ flag (codes "zfs") ∷ []
+
 -- the commands, in the order of the help
 abbrev pub commands : List CommandRow
 commands =
-    row subcommand.Try (codes "try") (optional_word (codes "FILE") ∷ optional_word (codes "HOST") ∷ optional_word (codes "DIR") ∷ optional_words (codes "MOUNT") ∷ []) true (option (codes "as") ∷ flag (codes "why") ∷ flag (codes "mountd") ∷ [])
+    row subcommand.Try (codes "try") (optional_word (codes "FILE") ∷ optional_word (codes "HOST") ∷ optional_word (codes "DIR") ∷ optional_words (codes "MOUNT") ∷ []) true (more_options ++ option (codes "as") ∷ flag (codes "why") ∷ flag (codes "mountd") ∷ [])
     ∷ row subcommand.Split (codes "split") (word (codes "FILE") ∷ word (codes "FILESYSTEMS") ∷ []) false []
-    ∷ row subcommand.Check (codes "check") (optional_word (codes "FILE") ∷ optional_words (codes "MOUNT") ∷ []) true (flag (codes "brief") ∷ flag (codes "strict") ∷ flag (codes "json") ∷ flag (codes "sarif") ∷ flag (codes "opinions") ∷ option (codes "ignore") ∷ [])
-    ∷ row subcommand.Clients (codes "clients") (optional_word (codes "FILE") ∷ optional_word (codes "DIR") ∷ optional_words (codes "MOUNT") ∷ []) true (flag (codes "mountd") ∷ [])
-    ∷ row subcommand.Lists (codes "lists") (optional_word (codes "FILE") ∷ optional_word (codes "HOST") ∷ optional_words (codes "MOUNT") ∷ []) true []
-    ∷ row subcommand.Terms (codes "terms") (optional_word (codes "FILE") ∷ optional_words (codes "MOUNT") ∷ []) true []
+    ∷ row subcommand.Check (codes "check") (optional_word (codes "FILE") ∷ optional_words (codes "MOUNT") ∷ []) true (more_options ++ flag (codes "brief") ∷ flag (codes "strict") ∷ flag (codes "json") ∷ flag (codes "sarif") ∷ flag (codes "opinions") ∷ option (codes "ignore") ∷ [])
+    ∷ row subcommand.Clients (codes "clients") (optional_word (codes "FILE") ∷ optional_word (codes "DIR") ∷ optional_words (codes "MOUNT") ∷ []) true (more_options ++ flag (codes "mountd") ∷ [])
+    ∷ row subcommand.Lists (codes "lists") (optional_word (codes "FILE") ∷ optional_word (codes "HOST") ∷ optional_words (codes "MOUNT") ∷ []) true more_options
+    ∷ row subcommand.Terms (codes "terms") (optional_word (codes "FILE") ∷ optional_words (codes "MOUNT") ∷ []) true more_options
     ∷ row subcommand.Compare (codes "compare") (optional_word (codes "OLD") ∷ optional_word (codes "NEW") ∷ optional_words (codes "MOUNT") ∷ []) true (flag (codes "all") ∷ [])
-    ∷ row subcommand.Test (codes "test") (optional_word (codes "FILE") ∷ optional_word (codes "EXPECTATIONS") ∷ optional_words (codes "MOUNT") ∷ []) true (flag (codes "json") ∷ [])
+    ∷ row subcommand.Test (codes "test") (optional_word (codes "FILE") ∷ optional_word (codes "EXPECTATIONS") ∷ optional_words (codes "MOUNT") ∷ []) true (more_options ++ flag (codes "json") ∷ [])
     ∷ row subcommand.Init (codes "init") (word (codes "DB") ∷ word (codes "DIR") ∷ []) false []
     ∷ row subcommand.Ask (codes "ask") (word (codes "DB") ∷ word (codes "HOST") ∷ word (codes "DIR") ∷ []) false (option (codes "as") ∷ flag (codes "why") ∷ flag (codes "mountd") ∷ [])
     ∷ row subcommand.Show (codes "show") (word (codes "DB") ∷ word (codes "HOST") ∷ []) false []
@@ -87,6 +95,7 @@ rule_of_kind kind.MaybeWord name = optional_word name
 rule_of_kind kind.MaybeWords name = optional_words name
 rule_of_kind (kind.Valued value) name = option name
 rule_of_kind (kind.Needed value) name = required_option name
+rule_of_kind (kind.Repeated value) name = repeated_option name
 rule_of_kind kind.Flag name = flag name
 
 abbrev pub rule_for : Argument → Rule

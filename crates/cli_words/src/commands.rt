@@ -194,6 +194,18 @@ pub const TABLES: &[Argument] = &[
     },
 ];
 
+const AND: Argument = Argument {
+    name: "and",
+    kind: Kind::Repeated("FILE"),
+    help: "One more exports text, whose lines count behind those before it; up to 8 times",
+};
+
+const ZFS: Argument = Argument {
+    name: "zfs",
+    kind: Kind::Flag,
+    help: "Adds zfs/exports of the folder of --site",
+};
+
 /// The commands, in the order of the help.
 pub const COMMANDS: &[CommandRow] = &[
     CommandRow {
@@ -202,6 +214,8 @@ pub const COMMANDS: &[CommandRow] = &[
         words: &[GIVEN_FILE, GIVEN_HOST, GIVEN_DIR, GIVEN_MOUNTS],
         tables: true,
         options: &[
+            AND,
+            ZFS,
             Argument {
                 name: "as",
                 kind: Kind::Valued("CRED"),
@@ -231,6 +245,8 @@ pub const COMMANDS: &[CommandRow] = &[
         words: &[GIVEN_FILE, GIVEN_MOUNTS],
         tables: true,
         options: &[
+            AND,
+            ZFS,
             Argument {
                 name: "brief",
                 kind: Kind::Flag,
@@ -268,21 +284,21 @@ pub const COMMANDS: &[CommandRow] = &[
         name: "clients",
         words: &[GIVEN_FILE, GIVEN_CLIENTS_DIR, GIVEN_MOUNTS],
         tables: true,
-        options: &[MOUNTD],
+        options: &[AND, ZFS, MOUNTD],
     },
     CommandRow {
         command: Subcommand::Lists,
         name: "lists",
         words: &[GIVEN_FILE, GIVEN_HOST, GIVEN_MOUNTS],
         tables: true,
-        options: &[],
+        options: &[AND, ZFS],
     },
     CommandRow {
         command: Subcommand::Terms,
         name: "terms",
         words: &[GIVEN_FILE, GIVEN_MOUNTS],
         tables: true,
-        options: &[],
+        options: &[AND, ZFS],
     },
     CommandRow {
         command: Subcommand::Compare,
@@ -308,7 +324,7 @@ pub const COMMANDS: &[CommandRow] = &[
         name: "test",
         words: &[GIVEN_FILE, GIVEN_EXPECTATIONS, GIVEN_MOUNTS],
         tables: true,
-        options: &[BREACHES_JSON],
+        options: &[AND, ZFS, BREACHES_JSON],
     },
     CommandRow {
         command: Subcommand::Init,
