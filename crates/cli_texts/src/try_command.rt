@@ -22,7 +22,7 @@ use cli_verdict::try_text::try_text;
 use cli_verdict::{Asking, MountQuestion, print_tried, read_asking};
 use cli_words::values::{Request, read_credential, read_credential_with, read_request};
 use cli_words::words::given;
-use desk_findings::{WholeSources, read_sources};
+use desk_findings::{Source, WholeSources, read_sources};
 use desk_policy::{SiteFault, SiteTables};
 use desk_tables::{Cred, FileSystems};
 use desk_text::ReadError;
@@ -205,6 +205,7 @@ fn decide(
         own,
         asking: asked.asking,
     };
-    let tried = try_text(alloc, sources.exports.text, tables, filesystems, question)?;
+    let Source { text, origins, .. } = sources.exports;
+    let tried = try_text(alloc, text, origins, tables, filesystems, question)?;
     Ok(print_tried(tried))
 }

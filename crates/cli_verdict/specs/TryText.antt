@@ -70,7 +70,7 @@ reasons_text tables content question = reasons_if question.asking tables content
 pub record TellsAbove (below : List ℕ) (content : Content) (question : MountQuestion) (tried : Tried) : Type 0 where
   pub answer : answer_of tried ≡ answer_above below content question.own (verdict_of content question.address question.path)
   pub beside : string_bytes tried.note
-      ≡ wider_note (wider_line (verdict_of content question.address question.path) (server_verdict_of content question.address question.path))
+      ≡ wider_note content.origins (wider_line (verdict_of content question.address question.path) (server_verdict_of content question.address question.path))
 
 -- the same by a policy and the tables that it was read with: below the verdict is why, if that is asked
 abbrev pub AnswersHere : SiteTables → Content → MountQuestion → Tried → Type 0

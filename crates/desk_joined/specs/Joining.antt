@@ -38,3 +38,8 @@ origins_of files = origins_behind [] files
 pub record IsJoined (files : List NamedText) (whole : Joined) : Type 0 where
   pub text : string_bytes whole.text ≡ joined files
   pub origins : whole.origins ≡ origins_of files
+
+-- a text stands behind those that were joined before
+pub record Adds (file : NamedText) (old new : Joined) : Type 0 where
+  pub text : string_bytes new.text ≡ string_bytes old.text ++ section file.text
+  pub origins : new.origins ≡ old.origins ++ origin file.path (count_by is_feed (string_bytes old.text)) ∷ []

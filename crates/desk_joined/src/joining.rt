@@ -1,10 +1,10 @@
 //! Texts, one behind another, in one text.
 
-ghost use Rattle.std.specs.Prelude.{◌≡◌, ◌++◌, IfOk, OnOk, count_by, map};
+ghost use Rattle.std.specs.Prelude.{◌≡◌, ◌++◌, [], OnOk, count_by};
 ghost use Rattle.std.specs.String.{string_bytes};
 ghost use Rattle.desk_split.specs.Joining as split;
 ghost use Rattle.desk_joined.specs.Joining as spec;
-ghost use Rattle.desk_joined.specs.Joining.{IsJoined, bytes_of, is_feed};
+ghost use Rattle.desk_joined.specs.Joining.{Adds, IsJoined, bytes_of, is_feed};
 
 use desk_origins::Origin;
 use desk_text::Sequence;
@@ -24,20 +24,27 @@ pub struct Joined {
     pub origins: Sequence<Origin>,
 }
 
-/// Joins texts, in order: each is ended, if nothing ends its last line, and stands before an empty line, in which a continued last line
-/// of it ends.
-pub fn join_texts(alloc: Global, files: &[NamedText<'_>]) -> Result<Joined, AllocError>
-    ensures { IfOk result (IsJoined (map bytes_of files.now)) }
-{
-    let mut text = String::new(alloc);
-    let mut origins = Sequence::new(alloc);
-    for file in files {
-        let before = count_feeds(text.as_str());
-        let origin = Origin::new(alloc, file.path, before)?;
-        origins.push(origin)?;
-        push_section(&mut text, file.text)?;
+impl Joined {
+    /// Joins no texts.
+    pub fn new(alloc: Global) -> Joined
+        ensures { IsJoined [] result }
+    {
+        Joined {
+            text: String::new(alloc),
+            origins: Sequence::new(alloc),
+        }
     }
-    Ok(Joined { text, origins })
+
+    /// Adds a text behind the others: it is ended, if nothing ends its last line, and stands before an empty line, in which a continued
+    /// last line of it ends.
+    pub fn add(&mut self, alloc: Global, file: NamedText<'_>) -> Result<(), AllocError>
+        ensures { OnOk result (Adds (bytes_of file.entry) self.old self.new) }
+    {
+        let before = count_feeds(self.text.as_str());
+        let origin = Origin::new(alloc, file.path, before)?;
+        self.origins.push(origin)?;
+        push_section(&mut self.text, file.text)
+    }
 }
 
 /// Counts the line feeds of a text.

@@ -2,11 +2,11 @@
 //!
 //! ```text
 //! // /etc/exports is `/usr \` without a line end, /etc/zfs/exports `/home -ro`
-//! join_texts(alloc, &files)?.text // `/usr \`, an empty line, `/home -ro`, an empty line
+//! joined.text // both added: `/usr \`, an empty line, `/home -ro`, an empty line
 //! ```
 #![tactic(auto)]
 
 mod joining;
 pub mod laws;
 
-pub use joining::{Joined, NamedText, join_texts};
+pub use joining::{Joined, NamedText};
