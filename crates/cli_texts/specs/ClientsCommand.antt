@@ -15,9 +15,9 @@ use Rattle.cli_words.specs.Words.{After, AnswersBy, is_set}
 use Rattle.cli_texts.specs.FaultyTexts.{AnswersOrFault}
 use Rattle.cli_texts.specs.Subject.{ReadsSubject, places, word_at}
 use Rattle.cli_texts.specs.Systems.{AfterSystems}
-use Rattle.cli_texts.specs.TableFiles.{ReadsSources, input_count}
+use Rattle.cli_texts.specs.TableFiles.{input_count}
 use Rattle.cli_texts.specs.declared.subject.Subject.{Subject}
-use Rattle.cli_texts.specs.WholeFiles.{whole_files, whole_list}
+use Rattle.cli_texts.specs.WholeFiles.{ReadsWhole, whole_files}
 use Rattle.cli_texts.specs.WholeTables.{Writes, policy_of}
 
 -- the ranges that a path has under the policy that an exports text is read as are printed, by the rule of mountd(8) if that is asked
@@ -37,7 +37,7 @@ ReadsDir subject rows result =
 
 -- the answer about a path with these file systems: the files are read after them
 abbrev pub AnswersFiles : Bool → List (List ℕ × Option (List ℕ)) → Option (List ℕ) → List (List ℕ) → List Mount → Result Printed Failure → Type 0
-AnswersFiles mountd files known path table result = After (ReadsSources whole_list files known) (AnswersPath mountd path table) result
+AnswersFiles mountd files known path table result = After (ReadsWhole files known) (AnswersPath mountd path table) result
 
 -- the answer about a path
 abbrev pub AnswersDir : List Row → Option (List ℕ) → Subject → List (List ℕ) → Result Printed Failure → Type 0

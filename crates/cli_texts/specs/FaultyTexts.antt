@@ -15,9 +15,9 @@ use Rattle.cli_output.specs.declared.printed.Printed.{Printed}
 use Rattle.cli_texts.specs.FaultLine.{fault_line}
 use Rattle.cli_texts.specs.WholeTables.{policy_of}
 
--- this fault is printed in a line, and standard error shows it as `check` does
+-- this fault is printed in a line, which names its exports text, if several are read as one, and standard error shows it as `check` does
 pub record PrintsThisFault (sources : WholeSources) (table : List Mount) (fault : SiteFault) (printed : Printed) : Type 0 where
-  pub prints : Prints 3 (fault_line fault ++ 10 ∷ []) printed
+  pub prints : Prints 3 (fault_line sources.exports.origins.now fault ++ 10 ∷ []) printed
   pub shows : TellsOf sources table fault (string_bytes printed.note)
 
 -- the fault of these texts is printed: of the first faulty table, or else of the exports text

@@ -18,9 +18,9 @@ use Rattle.cli_texts.specs.FaultyTexts.{AnswersOrFault}
 use Rattle.cli_texts.specs.Printing.{PrintsAlone}
 use Rattle.cli_texts.specs.Subject.{ReadsSubject, places, word_at}
 use Rattle.cli_texts.specs.Systems.{AfterSystems}
-use Rattle.cli_texts.specs.TableFiles.{ReadsSources, input_count}
+use Rattle.cli_texts.specs.TableFiles.{input_count}
 use Rattle.cli_texts.specs.declared.subject.Subject.{Subject}
-use Rattle.cli_texts.specs.WholeFiles.{whole_files, whole_list}
+use Rattle.cli_texts.specs.WholeFiles.{ReadsWhole, whole_files}
 use Rattle.cli_texts.specs.WholeTables.{Writes, policy_of}
 
 -- the listing of a client by the policy that an exports text is read as is printed, with the status 0, and standard error says nothing
@@ -41,7 +41,7 @@ ReadsHost subject rows result =
 
 -- the answer about a client with these file systems: the files are read after them
 abbrev pub AnswersFiles : ℕ → List (List ℕ × Option (List ℕ)) → Option (List ℕ) → List Mount → Result Printed Failure → Type 0
-AnswersFiles address files known table result = After (ReadsSources whole_list files known) (AnswersHost address table) result
+AnswersFiles address files known table result = After (ReadsWhole files known) (AnswersHost address table) result
 
 -- the answer about a client
 abbrev pub AnswersClient : List Row → Option (List ℕ) → Subject → Addr → Result Printed Failure → Type 0

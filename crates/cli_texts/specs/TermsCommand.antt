@@ -13,9 +13,9 @@ use Rattle.cli_texts.specs.FaultyTexts.{AnswersOrFault}
 use Rattle.cli_texts.specs.Printing.{PrintsAlone}
 use Rattle.cli_texts.specs.Subject.{ReadsSubject, places}
 use Rattle.cli_texts.specs.Systems.{AfterSystems}
-use Rattle.cli_texts.specs.TableFiles.{ReadsSources, input_count}
+use Rattle.cli_texts.specs.TableFiles.{input_count}
 use Rattle.cli_texts.specs.declared.subject.Subject.{Subject}
-use Rattle.cli_texts.specs.WholeFiles.{whole_files, whole_list}
+use Rattle.cli_texts.specs.WholeFiles.{ReadsWhole, whole_files}
 use Rattle.cli_texts.specs.WholeTables.{Writes, policy_of}
 
 -- all exports of the policy that an exports text is read as are printed with their terms, with the status 0, and standard error says
@@ -31,7 +31,7 @@ AnswersTexts table sources result = AnswersOrFault (PrintsTerms (policy_of sourc
 
 -- the answer with these file systems: the files are read after them
 abbrev pub AnswersFiles : List (List ℕ × Option (List ℕ)) → Option (List ℕ) → List Mount → Result Printed Failure → Type 0
-AnswersFiles files known table result = After (ReadsSources whole_list files known) (AnswersTexts table) result
+AnswersFiles files known table result = After (ReadsWhole files known) (AnswersTexts table) result
 
 -- the answer about what is asked of
 abbrev pub AnswersSubject : List Row → Option (List ℕ) → Subject → Result Printed Failure → Type 0

@@ -19,14 +19,14 @@ use Rattle.cli_words.specs.declared.values.Request.{Request}
 use Rattle.cli_texts.specs.FaultyTexts.{AnswersOrFault}
 use Rattle.cli_texts.specs.Subject.{ReadsSubject, places, word_at}
 use Rattle.cli_texts.specs.Systems.{AfterSystems}
-use Rattle.cli_texts.specs.TableFiles.{ReadsSources, input_count}
+use Rattle.cli_texts.specs.TableFiles.{input_count}
 use Rattle.cli_texts.specs.declared.subject.Subject.{Subject}
 use Rattle.cli_texts.specs.declared.try_command.Asked as code
 use Rattle.cli_verdict.specs.Asking.{asking_in}
 use Rattle.cli_verdict.specs.TryText.{IsAnswerBy, MountQuestion, PrintsTried}
 use Rattle.cli_verdict.specs.declared.asking.Asking.{Asking}
 use Rattle.cli_verdict.specs.declared.try_text.Tried.{Tried}
-use Rattle.cli_texts.specs.WholeFiles.{whole_files, whole_list}
+use Rattle.cli_texts.specs.WholeFiles.{ReadsWhole, whole_files}
 use Rattle.cli_texts.specs.WholeTables.{policy_of}
 
 -- the question of a request, of a client with this credential, if it is given, by the rule that is asked
@@ -66,7 +66,7 @@ AnswersRequest asked sources result = After (ReadsOwn asked.word sources) (Answe
 
 -- the answer to a request: its files are read after it
 abbrev pub AnswersFiles : Asked → List (List ℕ × Option (List ℕ)) → Option (List ℕ) → Result Printed Failure → Type 0
-AnswersFiles asked files known result = After (ReadsSources whole_list files known) (AnswersRequest asked) result
+AnswersFiles asked files known result = After (ReadsWhole files known) (AnswersRequest asked) result
 
 -- the request that these words write; or which of them is the first, from left to right, that cannot be parsed
 abbrev pub ReadsWords : List ℕ → List ℕ → Result Request Failure → Type 0

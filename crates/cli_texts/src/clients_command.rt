@@ -1,12 +1,11 @@
 //! The command `clients`: who may mount a directory, by an exports text.
 
-ghost use Rattle.std.specs.Prelude.{codes, map};
+ghost use Rattle.std.specs.Prelude.{codes};
 ghost use Rattle.desk_text.specs.Lines.{IsReadable};
 ghost use Rattle.desk_findings.specs.CheckFaults.{AreReadable};
 ghost use Rattle.cli_words.specs.Words.{is_set, rows_in};
 ghost use Rattle.cli_texts.specs.ClientsCommand.{AnswersClients, AnswersFiles, AnswersPath, AnswersSubject, PrintsClients, ReadsDir};
-ghost use Rattle.cli_texts.specs.TableFiles.{named};
-ghost use Rattle.cli_texts.specs.WholeFiles.{file_list};
+ghost use Rattle.cli_texts.specs.WholeFiles.{files_of};
 ghost use Rattle.cli_texts.specs.WholeTables.{GivesOrFault, policy_of};
 
 use crate::faulty_texts::answer_error;
@@ -75,7 +74,7 @@ fn answer_files<I: BufRead>(
     files: WholeFiles<'_>,
     input: &mut I,
 ) -> Result<Printed, Failure>
-    ensures { AnswersFiles (is_set (codes "mountd") (rows_in words.now)) (map named (file_list files.entry)) (I.remaining input.old) path.now filesystems.now result }
+    ensures { AnswersFiles (is_set (codes "mountd") (rows_in words.now)) (files_of files.entry) (I.remaining input.old) path.now filesystems.now result }
 {
     let texts = read_whole_texts(rt, files, input)?;
     let sources = whole_sources(files, &texts);

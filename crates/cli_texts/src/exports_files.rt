@@ -1,18 +1,21 @@
 //! The exports files that are read as one: the first, the second of a folder, and those of `--and`.
 
-ghost use Rattle.std.specs.Prelude.{◌≡◌, Some};
+ghost use Rattle.std.specs.Prelude.{◌≡◌, ◌≤◌, IfOk, Some, length};
 ghost use Rattle.std.specs.Option.{option_map};
+ghost use Rattle.std.specs.String.{string_bytes};
+ghost use Rattle.desk_text.specs.Lines.{IsReadable};
 ghost use Rattle.cli_files.specs.Files.{Leaves};
 ghost use Rattle.cli_words.specs.Words.{rows_in};
 ghost use Rattle.cli_texts.specs.ExportsFiles as spec;
 ghost use Rattle.cli_texts.specs.ExportsFiles.{exports_list, more_list};
 ghost use Rattle.cli_texts.specs.PrivateExportsFiles.{AddsInTurn, AddsOne, ReadsWholeText};
+ghost use Rattle.cli_texts.specs.Subject.{and_words};
 ghost use Rattle.cli_texts.specs.TableFiles.{input_count};
 
 use crate::subject::Subject;
 use crate::table_files::{TextFile, inputs, read_file};
 use clap::ArgMatches;
-use cli_files::files::read_text;
+use cli_files::files::{is_input, read_text};
 use cli_output::failure::Failure;
 use cli_words::words::{all_given, is_set};
 use desk_joined::{Joined, NamedText};
@@ -30,7 +33,9 @@ pub struct MoreFiles<'a> {
 
 /// Finds the exports files behind the first.
 pub fn more_files<'w: 'a, 'a>(words: &'a ArgMatches<'w>, subject: &'a Subject<'w>) -> MoreFiles<'a>
-    ensures { more_list result ≡ spec.more_files subject.entry.now (rows_in words.entry.now) }
+    requires few { length (and_words (rows_in words.entry.now)) ≤ 8 }
+    ensures files { more_list result ≡ spec.more_files subject.entry.now (rows_in words.entry.now) }
+    ensures few { length result.and.now ≤ 8 }
 {
     let and = match all_given(words, "and") {
         Some(files) => files,
@@ -52,18 +57,15 @@ fn zfs_file<'a>(words: &ArgMatches<'_>, subject: &'a Subject<'_>) -> Option<&'a 
     }
 }
 
-/// Counts those of them that are standard input. (The words have at most 8 of `--and`.)
+/// Counts those of them that are standard input.
 pub fn more_inputs(files: MoreFiles<'_>) -> usize
     ensures { result ≡ input_count (more_list files.entry) }
 {
-    let mut count = match files.zfs {
+    let zfs = match files.zfs {
         Some(path) => inputs(path) as usize,
         None => 0,
     };
-    for path in files.and {
-        count += inputs(path) as usize;
-    }
-    count
+    zfs + files.and.iter().filter(|path| is_input(path)).count()
 }
 
 /// Reads the first exports file and those behind it, in turn, and joins them if they are several.
@@ -73,7 +75,9 @@ pub fn read_exports<I: BufRead>(
     more: MoreFiles<'_>,
     input: &mut I,
 ) -> Result<Joined, Failure>
-    ensures { ReadsWholeText (exports_list first.entry more.entry) (I.remaining input.old) result }
+    requires few { length more.and.now ≤ 8 }
+    ensures text { ReadsWholeText (exports_list first.entry more.entry) (I.remaining input.old) result }
+    ensures short { IfOk result (λ whole. IsReadable (string_bytes whole.text)) }
 {
     let text = read_file(rt, first, input)?;
     if more.zfs.is_none() && more.and.is_empty() {

@@ -47,7 +47,7 @@ fn print_fault(
 {
     let own = filesystems.copy()?;
     let note = tell_fault(alloc, sources, own, fault)?;
-    let text = end_line(fault_text(alloc, fault)?)?;
+    let text = end_line(fault_text(alloc, sources.exports.origins, fault)?)?;
     Ok(Printed {
         status: 3,
         text,

@@ -1,6 +1,6 @@
 //! The command `lists`: what a client may mount, by an exports text.
 
-ghost use Rattle.std.specs.Prelude.{◌≡◌, IfOk, map};
+ghost use Rattle.std.specs.Prelude.{◌≡◌, IfOk};
 ghost use Rattle.std.specs.String.{string_bytes};
 ghost use Rattle.desk_text.specs.Address.{number_of};
 ghost use Rattle.desk_text.specs.Lines.{IsReadable};
@@ -9,8 +9,7 @@ ghost use Rattle.desk_policy.specs.Listings.{listing_of};
 ghost use Rattle.desk_findings.specs.CheckFaults.{AreReadable};
 ghost use Rattle.cli_words.specs.Words.{rows_in};
 ghost use Rattle.cli_texts.specs.ListsCommand.{AnswersFiles, AnswersHost, AnswersLists, AnswersSubject, PrintsListing, ReadsHost};
-ghost use Rattle.cli_texts.specs.TableFiles.{named};
-ghost use Rattle.cli_texts.specs.WholeFiles.{file_list};
+ghost use Rattle.cli_texts.specs.WholeFiles.{files_of};
 ghost use Rattle.cli_texts.specs.WholeTables.{GivesOrFault, policy_of};
 
 use crate::View;
@@ -86,7 +85,7 @@ fn answer_files<I: BufRead>(
     files: WholeFiles<'_>,
     input: &mut I,
 ) -> Result<Printed, Failure>
-    ensures { AnswersFiles (number_of address) (map named (file_list files.entry)) (I.remaining input.old) filesystems.now result }
+    ensures { AnswersFiles (number_of address) (files_of files.entry) (I.remaining input.old) filesystems.now result }
 {
     let texts = read_whole_texts(rt, files, input)?;
     let sources = whole_sources(files, &texts);

@@ -1,11 +1,11 @@
 //! What a command on texts is asked of: the file that its first word names, or the folder of `--site`.
 
-ghost use Rattle.std.specs.Prelude.{◌≡◌, IfOk, codes};
+ghost use Rattle.std.specs.Prelude.{◌≡◌, ◌≤◌, IfOk, codes, length};
 ghost use Rattle.std.specs.Option.{option_copied, option_map};
 ghost use Rattle.clap.specs.Words.{first_of};
 ghost use Rattle.cli_words.specs.Words.{Finds, rows_in};
 ghost use Rattle.cli_texts.specs.Subject as spec;
-ghost use Rattle.cli_texts.specs.Subject.{IsSiteOf, ReadsSubject, ReadsSubjectBy, fault_of_files, folder_of, places_of, word_at};
+ghost use Rattle.cli_texts.specs.Subject.{IsSiteOf, ReadsSubject, ReadsSubjectBy, and_words, fault_of_files, folder_of, places_of, word_at};
 
 use clap::ArgMatches;
 use cli_files::site_folder::{SiteFiles, mounts_path, paths_of, zfs_exports_path};
@@ -62,7 +62,8 @@ pub fn subject_of<'a>(
     words: &ArgMatches<'a>,
     places: Places,
 ) -> Result<Subject<'a>, Failure>
-    ensures { ReadsSubject (places_of places) (rows_in words.now) result }
+    ensures subject { ReadsSubject (places_of places) (rows_in words.now) result }
+    ensures few { IfOk result (λ subject. length (and_words (rows_in words.now)) ≤ 8) }
 {
     match fault_of_files(words) {
         Some(failure) => Err(failure),

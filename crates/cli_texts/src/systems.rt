@@ -35,7 +35,7 @@ pub fn read_systems<I: BufRead>(
     rt: &HostRuntime,
     words: &ArgMatches<'_>,
     subject: &Subject<'_>,
-    others: u32,
+    others: usize,
     input: &mut I,
 ) -> Result<Result<FileSystems, Printed>, Failure>
     ensures systems { ReadsSystems subject.now (rows_in words.now) others (I.remaining input.old) result }
@@ -54,7 +54,7 @@ pub fn read_systems<I: BufRead>(
 fn read_by_words<I: BufRead>(
     rt: &HostRuntime,
     words: &ArgMatches<'_>,
-    others: u32,
+    others: usize,
     input: &mut I,
 ) -> Result<FileSystems, Failure>
     ensures systems { let rows = rows_in words.now in ReadsByWords (all_of (codes "MOUNT") rows) (first_of (codes "mounts") rows) others (I.remaining input.old) result }
@@ -76,7 +76,7 @@ fn read_by_words<I: BufRead>(
 fn read_mounts_file<I: BufRead>(
     rt: &HostRuntime,
     file: &str,
-    others: u32,
+    others: usize,
     input: &mut I,
 ) -> Result<FileSystems, Failure>
     ensures systems { ReadsMountsFile file.now others (I.remaining input.old) result }
@@ -90,7 +90,7 @@ fn read_mounts_file<I: BufRead>(
 }
 
 /// Tests whether a file is standard input, and one of the others is too.
-fn is_input_again(file: &str, others: u32) -> bool
+fn is_input_again(file: &str, others: usize) -> bool
     ensures { result ≡ spec.is_input_again file.now others }
 {
     inputs(file) == 1 && others > 0

@@ -1,12 +1,10 @@
 //! The command `terms`: whom each directory of an exports text is for, and on what terms.
 
-ghost use Rattle.std.specs.Prelude.{map};
 ghost use Rattle.desk_text.specs.Lines.{IsReadable};
 ghost use Rattle.desk_findings.specs.CheckFaults.{AreReadable};
 ghost use Rattle.cli_words.specs.Words.{rows_in};
-ghost use Rattle.cli_texts.specs.TableFiles.{named};
 ghost use Rattle.cli_texts.specs.TermsCommand.{AnswersFiles, AnswersSubject, AnswersTerms, AnswersTexts, PrintsTerms};
-ghost use Rattle.cli_texts.specs.WholeFiles.{file_list};
+ghost use Rattle.cli_texts.specs.WholeFiles.{files_of};
 ghost use Rattle.cli_texts.specs.WholeTables.{GivesOrFault, policy_of};
 
 use crate::faulty_texts::answer_error;
@@ -69,7 +67,7 @@ fn answer_files<I: BufRead>(
     files: WholeFiles<'_>,
     input: &mut I,
 ) -> Result<Printed, Failure>
-    ensures { AnswersFiles (map named (file_list files.entry)) (I.remaining input.old) filesystems.now result }
+    ensures { AnswersFiles (files_of files.entry) (I.remaining input.old) filesystems.now result }
 {
     let texts = read_whole_texts(rt, files, input)?;
     let sources = whole_sources(files, &texts);

@@ -1,14 +1,14 @@
 //! The command `try`: one verdict over one exports text.
 
-ghost use Rattle.std.specs.Prelude.{◌≡◌, Err, Ok, map};
+ghost use Rattle.std.specs.Prelude.{◌≡◌, ◌≤◌, Err, Ok, length};
 ghost use Rattle.desk_text.specs.Lines.{IsReadable};
 ghost use Rattle.desk_text.specs.Reading.{Reads};
 ghost use Rattle.desk_findings.specs.CheckFaults.{AreReadable};
 ghost use Rattle.desk_findings.specs.CheckText.{tables_of};
 ghost use Rattle.cli_words.specs.Words.{rows_in};
 ghost use Rattle.cli_texts.specs.TryCommand.{AnswersFiles, AnswersRequest, AnswersSubject, AnswersTry, AnswersTryAs, PrintsVerdict, ReadsRequest, asked_of, question_in};
-ghost use Rattle.cli_texts.specs.TableFiles.{named};
-ghost use Rattle.cli_texts.specs.WholeFiles.{file_list};
+ghost use Rattle.cli_texts.specs.Subject.{and_words};
+ghost use Rattle.cli_texts.specs.WholeFiles.{files_of};
 ghost use Rattle.cli_texts.specs.WholeTables.{GivesOrFault, policy_of};
 
 use crate::faulty_texts::answer_error;
@@ -72,6 +72,7 @@ fn answer_subject<'w, I: BufRead>(
     subject: &Subject<'w>,
     input: &mut I,
 ) -> Result<Printed, Failure>
+    requires few { length (and_words (rows_in words.now)) ≤ 8 }
     ensures { AnswersSubject asking (rows_in words.now) (I.remaining input.old) subject.now result }
 {
     let request = words_request(rt.alloc(), words, subject)?;
@@ -108,7 +109,8 @@ fn answer_files<I: BufRead>(
     files: WholeFiles<'_>,
     input: &mut I,
 ) -> Result<Printed, Failure>
-    ensures { AnswersFiles (asked_of asked.entry) (map named (file_list files.entry)) (I.remaining input.old) result }
+    requires few { length files.more.and.now ≤ 8 }
+    ensures { AnswersFiles (asked_of asked.entry) (files_of files.entry) (I.remaining input.old) result }
 {
     let texts = read_whole_texts(rt, files, input)?;
     answer_request(rt.alloc(), asked, whole_sources(files, &texts))

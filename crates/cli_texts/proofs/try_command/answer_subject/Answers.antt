@@ -1,11 +1,11 @@
 -- The request is parsed, the file systems are read, and then the files.
-use Rattle.std.proofs.Common.{◌∙◌, Err, List, Ok, Option, ap, codes, map, refl, subst, ℕ}
+use Rattle.std.proofs.Common.{◌∙◌, Err, List, Ok, Option, ap, codes, refl, subst, ℕ}
 use Rattle.std.proofs.lemmas.Result.{err_from_is_err_and}
 use Rattle.clap.specs.Words.{first_of}
 use Rattle.cli_words.specs.Words.{rows_in}
-use Rattle.cli_texts.specs.TableFiles.{input_count, named}
+use Rattle.cli_texts.specs.TableFiles.{input_count}
 use Rattle.cli_texts.specs.TryCommand.{AnswersFiles}
-use Rattle.cli_texts.specs.WholeFiles.{file_list, whole_files}
+use Rattle.cli_texts.specs.WholeFiles.{files_of, whole_files}
 use Rattle.cli_texts.proofs.AskedSystems.{with_fault, with_table, without}
 use Rattle.cli_texts.proofs.try_command.answer_subject.Goals as goal
 
@@ -22,7 +22,7 @@ returns-in_err-systems g c =
     rw (p.1, p.2) (record {
       step = Ok c.in_ok-request.request;
       is = c.in_ok-request.ensures;
-      next = without subject rows c.whole_inputs-others.result (input_count (whole_files subject (codes "FILE") rows)) (c.whole_inputs-others.ensures.counted ∙ ap input_count c.whole_files-files.ensures)
+      next = without subject rows c.whole_inputs-others.result (input_count (whole_files subject (codes "FILE") rows)) (c.whole_inputs-others.ensures ∙ ap input_count c.whole_files-files.ensures.files)
           (g.I.Read.remaining c.args.input.now) (g.I.Read.remaining c.read_systems.new.input) c.read_systems.ensures.left _ c.in_err-systems.field-0.0 c.in_err-systems.ensures.systems;
     })
 
@@ -36,10 +36,10 @@ returns-in-Ok g c =
     record {
       step = Ok c.in_ok-request.request;
       is = c.in_ok-request.ensures;
-      next = with_table subject rows c.whole_inputs-others.result (input_count (whole_files subject (codes "FILE") rows)) (c.whole_inputs-others.ensures.counted ∙ ap input_count c.whole_files-files.ensures)
+      next = with_table subject rows c.whole_inputs-others.result (input_count (whole_files subject (codes "FILE") rows)) (c.whole_inputs-others.ensures ∙ ap input_count c.whole_files-files.ensures.files)
           (g.I.Read.remaining c.args.input.now) left c.read_systems.ensures.left _ c.in-Ok.filesystems c.answer_files.result (rw c.in-Ok.is at c.in_ok-systems.ensures.systems)
-          (subst (λ (files : List (List ℕ × Option (List ℕ))). Answers (first_of (codes "as") rows) files) c.whole_files-files.ensures
-          (subst (λ (word : Option (List ℕ)). Answers word (map named (file_list c.whole_files-files.result))) c.given.ensures c.answer_files.ensures));
+          (subst (λ (files : List (List ℕ × Option (List ℕ))). Answers (first_of (codes "as") rows) files) c.whole_files-files.ensures.files
+          (subst (λ (word : Option (List ℕ)). Answers word (files_of c.whole_files-files.result)) c.given.ensures c.answer_files.ensures));
     }
 
 pub returns : goal.returns
@@ -49,6 +49,6 @@ returns g c =
     record {
       step = Ok c.in_ok-request.request;
       is = c.in_ok-request.ensures;
-      next = with_fault subject rows c.whole_inputs-others.result (input_count (whole_files subject (codes "FILE") rows)) (c.whole_inputs-others.ensures.counted ∙ ap input_count c.whole_files-files.ensures)
+      next = with_fault subject rows c.whole_inputs-others.result (input_count (whole_files subject (codes "FILE") rows)) (c.whole_inputs-others.ensures ∙ ap input_count c.whole_files-files.ensures.files)
           (g.I.Read.remaining c.args.input.now) (g.I.Read.remaining c.read_systems.new.input) c.read_systems.ensures.left _ c.in-Err.printed (rw c.in-Err.is at c.in_ok-systems.ensures.systems);
     }
