@@ -214,9 +214,7 @@ impl fmt::Display for Failure {
             Failure::BesideSarif(name) => write!(f, "{name}: it cannot be given with --sarif"),
             Failure::Argument(bad) => bad.fmt(f),
             Failure::BesideMounts => f.write_str("MOUNT: it cannot be given with --mounts"),
-            Failure::TooManyFiles(count) => {
-                write!(f, "--and: over 8 files: there are {count}")
-            }
+            Failure::TooManyFiles(count) => { write!(f, "--and: over 8 files: there are {count}") }
             Failure::ZfsAlone => f.write_str("--zfs: it needs --site"),
             Failure::TooManyMounts(name, count) => {
                 write!(

@@ -29,8 +29,7 @@ pub fn view_of(
 {
     let own = filesystems.copy()?;
     let Source { text, origins, .. } = sources.exports;
-    let policy =
-        parse_whole_without_warnings(alloc, Profile::Two, text, origins, own, tables)?;
+    let policy = parse_whole_without_warnings(alloc, Profile::Two, text, origins, own, tables)?;
     // No verdict and no fault rests on the warnings, which are left out.
     warnings_change_no_answer();
     View::build(alloc, policy)

@@ -8,4 +8,4 @@
 
 mod origins;
 
-pub use origins::{LineName, Origin, copied, origin_of, own_line};
+pub use origins::{LineName, Origin, OwnPlace, copied, origin_of, own_line, own_place};

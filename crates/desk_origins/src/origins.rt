@@ -112,3 +112,27 @@ pub fn own_line(origin: &Origin, line: u32) -> usize
 {
     (line as usize).saturating_sub(origin.before)
 }
+
+/// A line as its own file has it: the path as it was given, and its number there.
+#[derive(Clone, Copy)]
+pub struct OwnPlace<'a> {
+    pub path: &'a str,
+    pub line: usize,
+}
+
+/// Finds where a line is in its own text, given the path of a text that is read alone.
+pub fn own_place<'a>(origins: &'a [Origin], path: &'a str, line: u32) -> OwnPlace<'a>
+    ensures path { result.path.now ≡ spec.own_path origins.entry.now path.entry.now line }
+    ensures line { result.line ≡ spec.own_number origins.entry.now line }
+{
+    match origin_of(origins, line) {
+        Some(origin) => OwnPlace {
+            path: origin.path.as_str(),
+            line: own_line(origin, line),
+        },
+        None => OwnPlace {
+            path,
+            line: line as usize,
+        },
+    }
+}

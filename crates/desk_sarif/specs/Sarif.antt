@@ -9,11 +9,13 @@ use Rattle.serde_json.specs.View.{items_of}
 use Rattle.serde_json.specs.Written.{compact_text}
 use Rattle.desk_remarks.specs.Remark.{is_opinion}
 use Rattle.desk_remarks.specs.declared.remark.Remark.{Remark}
-use Rattle.desk_findings.specs.Finding.{line_at, slice_at}
+use Rattle.desk_origins.specs.Origins.{own_number, own_path}
+use Rattle.desk_origins.specs.declared.origins.Origin.{Origin}
+use Rattle.desk_findings.specs.Finding.{slice_at}
 use Rattle.desk_findings.specs.declared.finding.Finding.{Finding}
 use Rattle.desk_findings.specs.declared.finding.Matter.{Matter}
 use Rattle.desk_findings.specs.declared.finding.Matter.TheVariants as matter
-use Rattle.desk_check.specs.FindingPrints.{message_of, other_of}
+use Rattle.desk_check.specs.FindingPrints.{message_of, number_in_file, other_of, path_of}
 use Rattle.desk_check.specs.Ignored.{is_ignored}
 use Rattle.desk_sarif.specs.SarifRules.{log_rules, only, rule_data, rule_id, text_data}
 use Rattle.desk_sarif.specs.SarifUri.{uri_of}
@@ -55,7 +57,7 @@ abbrev pub region_of : Finding → Data
 region_of finding = object
     (member (codes "endColumn") (count (end_column finding))
     (member (codes "startColumn") (count finding.column)
-    (member (codes "startLine") (count (line_at finding.place)) no_members)))
+    (member (codes "startLine") (count (number_in_file finding)) no_members)))
 
 -- a region of the file of this path
 abbrev pub place_in : List ℕ → Data → Data
@@ -65,7 +67,7 @@ place_in path region = object
 
 -- where a finding is
 abbrev pub location_of : Finding → Data
-location_of finding = only (codes "physicalLocation") (place_in finding.path.now (region_of finding))
+location_of finding = only (codes "physicalLocation") (place_in (path_of finding) (region_of finding))
 
 -- What the line is that a finding names beside its own. That of a fault comes before it; that of a remark need not.
 abbrev pub other_words : Matter → List ℕ
@@ -81,9 +83,9 @@ other_line words path line = object
     (member (codes "physicalLocation") (place_in path (only (codes "startLine") (count line))) no_members))
 
 -- a member for another line, if there is one, before these
-abbrev pub with_other : List ℕ → List ℕ → Option ℕ → Members → Members
-with_other words path None members = members
-with_other words path (Some line) members = member (codes "relatedLocations") (single (other_line words path line)) members
+abbrev pub with_other : List ℕ → List Origin → List ℕ → Option ℕ → Members → Members
+with_other words origins path None members = members
+with_other words origins path (Some line) members = member (codes "relatedLocations") (single (other_line words (own_path origins path line) (own_number origins line))) members
 
 -- What is said of a result that is suppressed, by an option and not in the source, and of one that is not. (Sections 3.27.23 and 3.35: all
 -- results of a run say it, or none does.)
@@ -106,7 +108,7 @@ result_of other suppressed finding text = object
     (member (codes "level") (string (level_of finding.matter))
     (member (codes "locations") (single (location_of finding))
     (member (codes "message") (text_data (message_text text))
-    (with_other (other_words finding.matter) finding.path.now other
+    (with_other (other_words finding.matter) finding.origins.now finding.path.now other
     (member (codes "ruleId") (string (rule_id finding.matter)) (suppressions_of suppressed))))))
 
 abbrev pub result_data : Option (List ℕ) → Finding → Data

@@ -33,11 +33,7 @@ pub fn wider_note(
 }
 
 /// Says by which line mountd(8) grants, if it does.
-fn line_note(
-    alloc: Global,
-    origins: &[Origin],
-    line: Option<u32>,
-) -> Result<String, AllocError>
+fn line_note(alloc: Global, origins: &[Origin], line: Option<u32>) -> Result<String, AllocError>
     ensures { IfOk result (λ note. string_bytes note ≡ spec.wider_note origins.now line) }
 {
     match line {

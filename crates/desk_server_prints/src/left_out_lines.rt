@@ -40,7 +40,12 @@ fn push_files(
 {
     for mount in mounts {
         let found = repeated_at(alloc, index, &mount.path)?;
-        push_first(index.policy().origins(), &mount.path, found.as_slice(), note)?;
+        push_first(
+            index.policy().origins(),
+            &mount.path,
+            found.as_slice(),
+            note,
+        )?;
         drop(found);
     }
     Ok(())
