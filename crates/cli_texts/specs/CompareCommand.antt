@@ -16,9 +16,9 @@ use Rattle.cli_output.specs.declared.printed.Printed.{Printed}
 use Rattle.cli_words.specs.Words.{After, AnswersBy, is_set}
 use Rattle.cli_texts.specs.Subject.{ReadsSubject, places, word_at}
 use Rattle.cli_texts.specs.Systems.{AfterSystems}
-use Rattle.cli_texts.specs.TwoFiles.{two_files, two_list, whole_first, whole_second}
+use Rattle.cli_texts.specs.TwoFiles.{ReadsTwo, two_files, whole_first, whole_second}
 use Rattle.cli_texts.specs.FaultyTexts.{AnswersOrFault, PrintsFault}
-use Rattle.cli_texts.specs.TableFiles.{ReadsSources, input_count}
+use Rattle.cli_texts.specs.TableFiles.{input_count}
 use Rattle.cli_texts.specs.declared.subject.Subject.{Subject}
 use Rattle.cli_texts.specs.WholeTables.{Writes, policy_of}
 use Rattle.cli_texts.specs.declared.two_files.TwoSources.{TwoSources}
@@ -46,7 +46,7 @@ AnswersTexts all table sources result =
 
 -- the answer with these file systems: the files are read after them
 abbrev pub AnswersFiles : Bool → List (List ℕ × Option (List ℕ)) → Option (List ℕ) → List Mount → Result Printed Failure → Type 0
-AnswersFiles all files known table result = After (ReadsSources two_list files known) (AnswersTexts all table) result
+AnswersFiles all files known table result = After (ReadsTwo files known) (AnswersTexts all table) result
 
 -- OLD, or the exports text of the folder, and NEW; and the tables before them
 abbrev pub compared_files : Subject → List Row → List ℕ → List (List ℕ × Option (List ℕ))

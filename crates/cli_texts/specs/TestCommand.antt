@@ -12,9 +12,9 @@ use Rattle.cli_words.specs.Words.{After, AnswersBy, is_set}
 use Rattle.cli_texts.specs.Subject.{ReadsSubject, places, word_at}
 use Rattle.cli_texts.specs.Systems.{AfterSystems}
 use Rattle.cli_texts.specs.FaultyTexts.{AnswersOrFault}
-use Rattle.cli_texts.specs.TableFiles.{ReadsSources, input_count}
+use Rattle.cli_texts.specs.TableFiles.{input_count}
 use Rattle.cli_texts.specs.declared.subject.Subject.{Subject}
-use Rattle.cli_texts.specs.TwoFiles.{two_files, two_list, whole_first}
+use Rattle.cli_texts.specs.TwoFiles.{ReadsTwo, two_files, whole_first}
 use Rattle.cli_texts.specs.WholeTables.{Writes, policy_of}
 use Rattle.cli_texts.specs.declared.two_files.TwoSources.{TwoSources}
 
@@ -37,7 +37,7 @@ AnswersTexts json table sources result = AnswersOrFault (PrintsExpected table js
 
 -- the answer with these file systems: the files are read after them
 abbrev pub AnswersFiles : Bool → List (List ℕ × Option (List ℕ)) → Option (List ℕ) → List Mount → Result Printed Failure → Type 0
-AnswersFiles json files known table result = After (ReadsSources two_list files known) (AnswersTexts json table) result
+AnswersFiles json files known table result = After (ReadsTwo files known) (AnswersTexts json table) result
 
 -- FILE, or the exports text of the folder, and EXPECTATIONS; and the tables before them
 abbrev pub tested_files : Subject → List Row → List ℕ → List (List ℕ × Option (List ℕ))

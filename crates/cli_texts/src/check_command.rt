@@ -1,6 +1,6 @@
 //! The command `check`: every fault and warning of an exports text and its tables, or of a site's files.
 
-ghost use Rattle.std.specs.Prelude.{◌≡◌, ◌++◌, ◌∷◌, [], IfOk, codes, if◌then◌else◌};
+ghost use Rattle.std.specs.Prelude.{[], ◌++◌, ◌∷◌, ◌≡◌, ◌≤◌, codes, IfOk, if◌then◌else◌, length};
 ghost use Rattle.std.specs.Option.{option_map};
 ghost use Rattle.std.specs.String.{string_bytes};
 ghost use Rattle.desk_text.specs.Lines.{IsReadable};
@@ -8,6 +8,7 @@ ghost use Rattle.desk_findings.specs.CheckFaults.{AreReadable};
 ghost use Rattle.desk_findings.specs.Finding.{HaveSlices};
 ghost use Rattle.cli_words.specs.Words.{rows_in};
 ghost use Rattle.cli_texts.specs.CheckCommand.{AnswersByFiles, AnswersCheck, AnswersCheckBy, AnswersGiven, AnswersHeard, AnswersSubject, AnswersTexts, PrintsFindings, asks_opinions, beside_sarif, form_of};
+ghost use Rattle.cli_texts.specs.Subject.{and_words};
 ghost use Rattle.cli_texts.specs.WholeFiles.{files_of};
 
 use crate::check_site_files::check_site;
@@ -97,6 +98,7 @@ fn check_subject<'w, I: BufRead>(
     subject: &Subject<'w>,
     input: &mut I,
 ) -> Result<Printed, Failure>
+    requires few { length (and_words (rows_in words.now)) ≤ 8 }
     ensures { AnswersSubject (rows_in words.now) (option_map (λ numbers. numbers.now) ignored.entry) (I.remaining input.old) subject.now result }
 {
     let files = whole_files(words, subject, "FILE");
@@ -144,6 +146,7 @@ fn check_given<I: BufRead>(
     files: WholeFiles<'_>,
     input: &mut I,
 ) -> Result<Printed, Failure>
+    requires few { length files.more.and.now ≤ 8 }
     ensures { AnswersGiven subject.now (rows_in words.now) (option_map (λ numbers. numbers.now) ignored.entry) (files_of files.entry) (I.remaining input.old) result }
 {
     let others = whole_inputs(files);
@@ -163,6 +166,7 @@ fn check_files<I: BufRead>(
     files: WholeFiles<'_>,
     input: &mut I,
 ) -> Result<Printed, Failure>
+    requires few { length files.more.and.now ≤ 8 }
     ensures { AnswersByFiles (rows_in words.now) (option_map (λ numbers. numbers.now) ignored.entry) (files_of files.entry) (I.remaining input.old) filesystems result }
 {
     let texts = read_whole_texts(rt, files, input)?;

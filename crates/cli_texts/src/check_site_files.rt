@@ -1,6 +1,6 @@
 //! The command `check --site DIR`: every fault and warning of the files in a site's folder, of which some may be missing.
 
-ghost use Rattle.std.specs.Prelude.{◌≡◌, ◌≢◌, ◌≤◌, IfOk, IfSome, codes, length};
+ghost use Rattle.std.specs.Prelude.{◌≡◌, ◌≢◌, ◌≤◌, codes, IfOk, IfSome, length};
 ghost use Rattle.std.specs.Option.{option_map};
 ghost use Rattle.std.specs.Result.{result_map_both};
 ghost use Rattle.std.specs.String.{string_bytes};
@@ -35,6 +35,7 @@ pub fn check_site<I: BufRead>(
     files: WholeFiles<'_>,
     input: &mut I,
 ) -> Result<Printed, Failure>
+    requires few { length files.more.and.now ≤ 8 }
     ensures { AnswersSite opinions form (option_map (λ numbers. numbers.now) ignored.entry) folder.now (files_of files.entry) (I.remaining input.old) result }
 {
     let kept = read_custodians(rt, folder, input)?;
@@ -95,6 +96,7 @@ fn check_folder<I: BufRead>(
     files: WholeFiles<'_>,
     input: &mut I,
 ) -> Result<Printed, Failure>
+    requires few { length files.more.and.now ≤ 8 }
     requires custodians { IsReadableIfThere asked.custodians }
     requires short { AreShort systems }
     ensures { AnswersFolder asked.entry folder.now systems (files_of files.entry) (I.remaining input.old) result }

@@ -1,10 +1,11 @@
 //! The command `clients`: who may mount a directory, by an exports text.
 
-ghost use Rattle.std.specs.Prelude.{codes};
+ghost use Rattle.std.specs.Prelude.{◌≤◌, codes, length};
 ghost use Rattle.desk_text.specs.Lines.{IsReadable};
 ghost use Rattle.desk_findings.specs.CheckFaults.{AreReadable};
 ghost use Rattle.cli_words.specs.Words.{is_set, rows_in};
 ghost use Rattle.cli_texts.specs.ClientsCommand.{AnswersClients, AnswersFiles, AnswersPath, AnswersSubject, PrintsClients, ReadsDir};
+ghost use Rattle.cli_texts.specs.Subject.{and_words};
 ghost use Rattle.cli_texts.specs.WholeFiles.{files_of};
 ghost use Rattle.cli_texts.specs.WholeTables.{GivesOrFault, policy_of};
 
@@ -53,6 +54,7 @@ fn answer_subject<'w, I: BufRead>(
     subject: &Subject<'w>,
     input: &mut I,
 ) -> Result<Printed, Failure>
+    requires few { length (and_words (rows_in words.now)) ≤ 8 }
     ensures { AnswersSubject (rows_in words.now) (I.remaining input.old) subject.now result }
 {
     let path = read_dir(rt.alloc(), words, subject)?;
@@ -74,6 +76,7 @@ fn answer_files<I: BufRead>(
     files: WholeFiles<'_>,
     input: &mut I,
 ) -> Result<Printed, Failure>
+    requires few { length files.more.and.now ≤ 8 }
     ensures { AnswersFiles (is_set (codes "mountd") (rows_in words.now)) (files_of files.entry) (I.remaining input.old) path.now filesystems.now result }
 {
     let texts = read_whole_texts(rt, files, input)?;

@@ -1,13 +1,13 @@
 //! The command `compare`: what changes from one exports text to another, of every directory and for every client.
 
-ghost use Rattle.std.specs.Prelude.{◌≡◌, Ok, codes, map};
+ghost use Rattle.std.specs.Prelude.{◌≡◌, ◌≤◌, codes, length, Ok};
 ghost use Rattle.desk_text.specs.Lines.{IsReadable};
 ghost use Rattle.desk_findings.specs.CheckFaults.{AreReadable};
 ghost use Rattle.desk_findings.specs.CheckText.{tables_of};
 ghost use Rattle.cli_words.specs.Words.{is_set, rows_in};
 ghost use Rattle.cli_texts.specs.CompareCommand.{AnswersCompare, AnswersFiles, AnswersSubject, AnswersTexts, PrintsChanges};
-ghost use Rattle.cli_texts.specs.TableFiles.{named};
-ghost use Rattle.cli_texts.specs.TwoFiles.{file_list};
+ghost use Rattle.cli_texts.specs.Subject.{and_words};
+ghost use Rattle.cli_texts.specs.TwoFiles.{files_of_two};
 ghost use Rattle.cli_texts.specs.FaultyTexts.{AnswersOrFault};
 ghost use Rattle.cli_texts.specs.WholeTables.{GivesOrFault, policy_of};
 
@@ -59,6 +59,7 @@ fn answer_subject<'w, I: BufRead>(
     subject: &Subject<'w>,
     input: &mut I,
 ) -> Result<Printed, Failure>
+    requires few { length (and_words (rows_in words.now)) ≤ 8 }
     ensures { AnswersSubject (rows_in words.now) (I.remaining input.old) subject.now result }
 {
     let after = word_of(words, subject, "OLD", "NEW")?;
@@ -86,7 +87,8 @@ fn answer_files<I: BufRead>(
     files: TwoFiles<'_>,
     input: &mut I,
 ) -> Result<Printed, Failure>
-    ensures { AnswersFiles (is_set (codes "all") (rows_in words.now)) (map named (file_list files.entry)) (I.remaining input.old) filesystems.now result }
+    requires few { length files.whole.more.and.now ≤ 8 }
+    ensures { AnswersFiles (is_set (codes "all") (rows_in words.now)) (files_of_two files.entry) (I.remaining input.old) filesystems.now result }
 {
     let texts = read_two_texts(rt, files, input)?;
     let sources = two_sources(files, &texts);

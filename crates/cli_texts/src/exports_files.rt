@@ -76,7 +76,7 @@ pub fn read_exports<I: BufRead>(
     input: &mut I,
 ) -> Result<Joined, Failure>
     requires few { length more.and.now ≤ 8 }
-    ensures text { ReadsWholeText (exports_list first.entry more.entry) (I.remaining input.old) result }
+    ensures text { ReadsWholeText (exports_list first.entry more.entry) (I.remaining input.old) (I.remaining input.new) result }
     ensures short { IfOk result (λ whole. IsReadable (string_bytes whole.text)) }
 {
     let text = read_file(rt, first, input)?;
@@ -104,7 +104,7 @@ fn add_more<I: BufRead>(
     input: &mut I,
     whole: &mut Joined,
 ) -> Result<(), Failure>
-    ensures { AddsInTurn (more_list files.entry) (I.remaining input.old) whole.old whole.new result }
+    ensures { AddsInTurn (more_list files.entry) (I.remaining input.old) (I.remaining input.new) whole.old whole.new result }
 {
     if let Some(path) = files.zfs {
         add_file(rt, "--zfs", path, input, whole)?;

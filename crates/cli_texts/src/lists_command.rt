@@ -1,6 +1,6 @@
 //! The command `lists`: what a client may mount, by an exports text.
 
-ghost use Rattle.std.specs.Prelude.{◌≡◌, IfOk};
+ghost use Rattle.std.specs.Prelude.{◌≡◌, ◌≤◌, IfOk, length};
 ghost use Rattle.std.specs.String.{string_bytes};
 ghost use Rattle.desk_text.specs.Address.{number_of};
 ghost use Rattle.desk_text.specs.Lines.{IsReadable};
@@ -9,6 +9,7 @@ ghost use Rattle.desk_policy.specs.Listings.{listing_of};
 ghost use Rattle.desk_findings.specs.CheckFaults.{AreReadable};
 ghost use Rattle.cli_words.specs.Words.{rows_in};
 ghost use Rattle.cli_texts.specs.ListsCommand.{AnswersFiles, AnswersHost, AnswersLists, AnswersSubject, PrintsListing, ReadsHost};
+ghost use Rattle.cli_texts.specs.Subject.{and_words};
 ghost use Rattle.cli_texts.specs.WholeFiles.{files_of};
 ghost use Rattle.cli_texts.specs.WholeTables.{GivesOrFault, policy_of};
 
@@ -57,6 +58,7 @@ fn answer_subject<'w, I: BufRead>(
     subject: &Subject<'w>,
     input: &mut I,
 ) -> Result<Printed, Failure>
+    requires few { length (and_words (rows_in words.now)) ≤ 8 }
     ensures { AnswersSubject (rows_in words.now) (I.remaining input.old) subject.now result }
 {
     let address = host_of(rt.alloc(), words, subject)?;
@@ -85,6 +87,7 @@ fn answer_files<I: BufRead>(
     files: WholeFiles<'_>,
     input: &mut I,
 ) -> Result<Printed, Failure>
+    requires few { length files.more.and.now ≤ 8 }
     ensures { AnswersFiles (number_of address) (files_of files.entry) (I.remaining input.old) filesystems.now result }
 {
     let texts = read_whole_texts(rt, files, input)?;

@@ -1,9 +1,11 @@
 //! The command `terms`: whom each directory of an exports text is for, and on what terms.
 
+ghost use Rattle.std.specs.Prelude.{◌≤◌, length};
 ghost use Rattle.desk_text.specs.Lines.{IsReadable};
 ghost use Rattle.desk_findings.specs.CheckFaults.{AreReadable};
 ghost use Rattle.cli_words.specs.Words.{rows_in};
 ghost use Rattle.cli_texts.specs.TermsCommand.{AnswersFiles, AnswersSubject, AnswersTerms, AnswersTexts, PrintsTerms};
+ghost use Rattle.cli_texts.specs.Subject.{and_words};
 ghost use Rattle.cli_texts.specs.WholeFiles.{files_of};
 ghost use Rattle.cli_texts.specs.WholeTables.{GivesOrFault, policy_of};
 
@@ -49,6 +51,7 @@ fn answer_subject<'w, I: BufRead>(
     subject: &Subject<'w>,
     input: &mut I,
 ) -> Result<Printed, Failure>
+    requires few { length (and_words (rows_in words.now)) ≤ 8 }
     ensures { AnswersSubject (rows_in words.now) (I.remaining input.old) subject.now result }
 {
     let files = whole_files(words, subject, "FILE");
@@ -67,6 +70,7 @@ fn answer_files<I: BufRead>(
     files: WholeFiles<'_>,
     input: &mut I,
 ) -> Result<Printed, Failure>
+    requires few { length files.more.and.now ≤ 8 }
     ensures { AnswersFiles (files_of files.entry) (I.remaining input.old) filesystems.now result }
 {
     let texts = read_whole_texts(rt, files, input)?;

@@ -1,12 +1,12 @@
 //! The command `test`: whether an exports text keeps what another text expects of it, for every directory and every client.
 
-ghost use Rattle.std.specs.Prelude.{codes, map};
+ghost use Rattle.std.specs.Prelude.{◌≤◌, codes, length};
 ghost use Rattle.desk_text.specs.Lines.{IsReadable};
 ghost use Rattle.desk_findings.specs.CheckFaults.{AreReadable};
 ghost use Rattle.cli_words.specs.Words.{is_set, rows_in};
 ghost use Rattle.cli_texts.specs.TestCommand.{AnswersFiles, AnswersSubject, AnswersTest, AnswersTexts, PrintsExpected};
-ghost use Rattle.cli_texts.specs.TableFiles.{named};
-ghost use Rattle.cli_texts.specs.TwoFiles.{file_list, whole_first};
+ghost use Rattle.cli_texts.specs.Subject.{and_words};
+ghost use Rattle.cli_texts.specs.TwoFiles.{files_of_two, whole_first};
 ghost use Rattle.cli_texts.specs.WholeTables.{GivesOrFault, policy_of};
 
 use crate::faulty_texts::answer_error;
@@ -55,6 +55,7 @@ fn answer_subject<'w, I: BufRead>(
     subject: &Subject<'w>,
     input: &mut I,
 ) -> Result<Printed, Failure>
+    requires few { length (and_words (rows_in words.now)) ≤ 8 }
     ensures { AnswersSubject (rows_in words.now) (I.remaining input.old) subject.now result }
 {
     let expectations = word_of(words, subject, "FILE", "EXPECTATIONS")?;
@@ -82,7 +83,8 @@ fn answer_files<I: BufRead>(
     files: TwoFiles<'_>,
     input: &mut I,
 ) -> Result<Printed, Failure>
-    ensures { AnswersFiles (is_set (codes "json") (rows_in words.now)) (map named (file_list files.entry)) (I.remaining input.old) filesystems.now result }
+    requires few { length files.whole.more.and.now ≤ 8 }
+    ensures { AnswersFiles (is_set (codes "json") (rows_in words.now)) (files_of_two files.entry) (I.remaining input.old) filesystems.now result }
 {
     let texts = read_two_texts(rt, files, input)?;
     let sources = two_sources(files, &texts);

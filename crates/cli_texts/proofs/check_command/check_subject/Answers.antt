@@ -18,4 +18,4 @@ of_file rows ignored known result files (Site folder) file is are answers = absu
 
 pub returns-in-File : goal.returns-in-File
 returns-in-File g c =
-    of_file (rows_in c.args.words.now) (option_map (λ numbers. numbers.now) c.args.ignored) (g.I.Read.remaining c.args.input.now) c.check_given.result _ c.args.subject.now c.in-File.field-0 c.in-File.is c.whole_files-files.ensures c.check_given.ensures
+    of_file (rows_in c.args.words.now) (option_map (λ numbers. numbers.now) c.args.ignored) (g.I.Read.remaining c.args.input.now) c.check_given.result _ c.args.subject.now c.in-File.field-0 c.in-File.is c.whole_files-files.ensures.files c.check_given.ensures

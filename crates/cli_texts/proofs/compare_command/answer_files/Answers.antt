@@ -1,10 +1,7 @@
 -- The files are read first.
-use Rattle.std.proofs.Common.{Bool, Err, Ok, map, refl, subst}
+use Rattle.std.proofs.Common.{Bool, Err, Ok, refl, subst}
 use Rattle.std.proofs.lemmas.Result.{err_from_is_err_and}
 use Rattle.cli_texts.specs.CompareCommand.{AnswersTexts}
-use Rattle.cli_texts.specs.TableFiles.{named}
-use Rattle.cli_texts.specs.TwoFiles.{file_list, two_list, two_texts}
-use Rattle.cli_texts.proofs.FilesInTurn.{lent}
 use Rattle.cli_texts.proofs.compare_command.answer_files.Goals as goal
 
 pub returns-in_err-texts : goal.returns-in_err-texts
@@ -17,6 +14,6 @@ returns g c =
     let sources = c.two_sources-sources in
     record {
       step = Ok sources.result;
-      is = lent (map named (file_list c.args.files)) (g.I.Read.remaining c.args.input.now) (two_texts c.in_ok-texts.texts) (two_list sources.result) sources.ensures.paths sources.ensures.texts c.in_ok-texts.ensures.texts;
+      is = sources.ensures.are (g.I.Read.remaining c.args.input.now) c.in_ok-texts.ensures.texts;
       next = subst (λ (flag : Bool). AnswersTexts flag c.args.filesystems.now sources.result c.answer_texts.result) c.is_set.ensures c.answer_texts.ensures;
     }

@@ -22,7 +22,7 @@ returns-in_err-systems g c =
     rw (p.1, p.2) (record {
       step = Ok c.in_ok-address.address;
       is = c.in_ok-address.ensures;
-      next = without subject rows c.whole_inputs-others.result (input_count (whole_files subject (codes "FILE") rows)) (c.whole_inputs-others.ensures ∙ ap input_count c.whole_files-files.ensures)
+      next = without subject rows c.whole_inputs-others.result (input_count (whole_files subject (codes "FILE") rows)) (c.whole_inputs-others.ensures ∙ ap input_count c.whole_files-files.ensures.files)
           (g.I.Read.remaining c.args.input.now) (g.I.Read.remaining c.read_systems.new.input) c.read_systems.ensures.left _ c.in_err-systems.field-0.0 c.in_err-systems.ensures.systems;
     })
 
@@ -34,9 +34,9 @@ returns-in-Ok g c =
     record {
       step = Ok c.in_ok-address.address;
       is = c.in_ok-address.ensures;
-      next = with_table subject rows c.whole_inputs-others.result (input_count (whole_files subject (codes "FILE") rows)) (c.whole_inputs-others.ensures ∙ ap input_count c.whole_files-files.ensures)
+      next = with_table subject rows c.whole_inputs-others.result (input_count (whole_files subject (codes "FILE") rows)) (c.whole_inputs-others.ensures ∙ ap input_count c.whole_files-files.ensures.files)
           (g.I.Read.remaining c.args.input.now) left c.read_systems.ensures.left _ c.in-Ok.filesystems c.answer_files.result (rw c.in-Ok.is at c.in_ok-systems.ensures.systems)
-          (subst (λ (files : List (List ℕ × Option (List ℕ))). AnswersFiles (number_of c.in_ok-address.address) files left c.in-Ok.filesystems c.answer_files.result) c.whole_files-files.ensures c.answer_files.ensures);
+          (subst (λ (files : List (List ℕ × Option (List ℕ))). AnswersFiles (number_of c.in_ok-address.address) files left c.in-Ok.filesystems c.answer_files.result) c.whole_files-files.ensures.files c.answer_files.ensures);
     }
 
 pub returns-in-Err : goal.returns-in-Err
@@ -46,6 +46,6 @@ returns-in-Err g c =
     record {
       step = Ok c.in_ok-address.address;
       is = c.in_ok-address.ensures;
-      next = with_fault subject rows c.whole_inputs-others.result (input_count (whole_files subject (codes "FILE") rows)) (c.whole_inputs-others.ensures ∙ ap input_count c.whole_files-files.ensures)
+      next = with_fault subject rows c.whole_inputs-others.result (input_count (whole_files subject (codes "FILE") rows)) (c.whole_inputs-others.ensures ∙ ap input_count c.whole_files-files.ensures.files)
           (g.I.Read.remaining c.args.input.now) (g.I.Read.remaining c.read_systems.new.input) c.read_systems.ensures.left _ c.in-Err.printed (rw c.in-Err.is at c.in_ok-systems.ensures.systems);
     }

@@ -14,7 +14,7 @@ returns-in_err-systems g c =
     let rows = rows_in c.args.words.now in
     let subject = c.args.subject.now in
     rw (p.1, p.2)
-    (without subject rows c.whole_inputs-others.result (input_count (whole_files subject (codes "FILE") rows)) (c.whole_inputs-others.ensures ∙ ap input_count c.whole_files-files.ensures)
+    (without subject rows c.whole_inputs-others.result (input_count (whole_files subject (codes "FILE") rows)) (c.whole_inputs-others.ensures ∙ ap input_count c.whole_files-files.ensures.files)
     (g.I.Read.remaining c.args.input.now) (g.I.Read.remaining c.read_systems.new.input) c.read_systems.ensures.left _ c.in_err-systems.field-0.0 c.in_err-systems.ensures.systems)
 
 pub returns-in-Ok : goal.returns-in-Ok
@@ -22,13 +22,13 @@ returns-in-Ok g c =
     let rows = rows_in c.args.words.now in
     let subject = c.args.subject.now in
     let left = g.I.Read.remaining c.read_systems.new.input in
-    with_table subject rows c.whole_inputs-others.result (input_count (whole_files subject (codes "FILE") rows)) (c.whole_inputs-others.ensures ∙ ap input_count c.whole_files-files.ensures)
+    with_table subject rows c.whole_inputs-others.result (input_count (whole_files subject (codes "FILE") rows)) (c.whole_inputs-others.ensures ∙ ap input_count c.whole_files-files.ensures.files)
     (g.I.Read.remaining c.args.input.now) left c.read_systems.ensures.left _ c.in-Ok.filesystems c.answer_files.result (rw c.in-Ok.is at c.in_ok-systems.ensures.systems)
-    (subst (λ (files : List (List ℕ × Option (List ℕ))). AnswersFiles files left c.in-Ok.filesystems c.answer_files.result) c.whole_files-files.ensures c.answer_files.ensures)
+    (subst (λ (files : List (List ℕ × Option (List ℕ))). AnswersFiles files left c.in-Ok.filesystems c.answer_files.result) c.whole_files-files.ensures.files c.answer_files.ensures)
 
 pub returns-in-Err : goal.returns-in-Err
 returns-in-Err g c =
     let rows = rows_in c.args.words.now in
     let subject = c.args.subject.now in
-    with_fault subject rows c.whole_inputs-others.result (input_count (whole_files subject (codes "FILE") rows)) (c.whole_inputs-others.ensures ∙ ap input_count c.whole_files-files.ensures)
+    with_fault subject rows c.whole_inputs-others.result (input_count (whole_files subject (codes "FILE") rows)) (c.whole_inputs-others.ensures ∙ ap input_count c.whole_files-files.ensures.files)
     (g.I.Read.remaining c.args.input.now) (g.I.Read.remaining c.read_systems.new.input) c.read_systems.ensures.left _ c.in-Err.printed (rw c.in-Err.is at c.in_ok-systems.ensures.systems)

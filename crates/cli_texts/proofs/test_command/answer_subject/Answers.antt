@@ -14,7 +14,7 @@ returns-in_err-systems g c =
     let rows = rows_in c.args.words.now in
     let subject = c.args.subject.now in
     let word = c.in_ok-expectations.expectations.now in
-    let same = ap (λ (files : List (List ℕ × Option (List ℕ))). files ++ (codes "EXPECTATIONS", Some word) ∷ []) c.whole_files.ensures in
+    let same = ap (λ (files : List (List ℕ × Option (List ℕ))). files ++ (codes "EXPECTATIONS", Some word) ∷ []) c.whole_files.ensures.files in
     rw (p.1, p.2) (by_found _ _ _ _ _ c.in_ok-expectations.ensures
     (without subject rows c.two_inputs-others.result (input_count (tested_files subject rows word)) (c.two_inputs-others.ensures ∙ ap input_count same)
     (g.I.Read.remaining c.args.input.now) (g.I.Read.remaining c.read_systems.new.input) c.read_systems.ensures.left _ c.in_err-systems.field-0.0 c.in_err-systems.ensures.systems))
@@ -24,7 +24,7 @@ returns-in-Ok g c =
     let rows = rows_in c.args.words.now in
     let subject = c.args.subject.now in
     let word = c.in_ok-expectations.expectations.now in
-    let same = ap (λ (files : List (List ℕ × Option (List ℕ))). files ++ (codes "EXPECTATIONS", Some word) ∷ []) c.whole_files.ensures in
+    let same = ap (λ (files : List (List ℕ × Option (List ℕ))). files ++ (codes "EXPECTATIONS", Some word) ∷ []) c.whole_files.ensures.files in
     by_found _ _ _ _ _ c.in_ok-expectations.ensures
     (with_table subject rows c.two_inputs-others.result (input_count (tested_files subject rows word)) (c.two_inputs-others.ensures ∙ ap input_count same)
     (g.I.Read.remaining c.args.input.now) (g.I.Read.remaining c.read_systems.new.input) c.read_systems.ensures.left _ c.in-Ok.filesystems c.answer_files.result (rw c.in-Ok.is at c.in_ok-systems.ensures.systems)
@@ -35,7 +35,7 @@ returns-in-Err g c =
     let rows = rows_in c.args.words.now in
     let subject = c.args.subject.now in
     let word = c.in_ok-expectations.expectations.now in
-    let same = ap (λ (files : List (List ℕ × Option (List ℕ))). files ++ (codes "EXPECTATIONS", Some word) ∷ []) c.whole_files.ensures in
+    let same = ap (λ (files : List (List ℕ × Option (List ℕ))). files ++ (codes "EXPECTATIONS", Some word) ∷ []) c.whole_files.ensures.files in
     by_found _ _ _ _ _ c.in_ok-expectations.ensures
     (with_fault subject rows c.two_inputs-others.result (input_count (tested_files subject rows word)) (c.two_inputs-others.ensures ∙ ap input_count same)
     (g.I.Read.remaining c.args.input.now) (g.I.Read.remaining c.read_systems.new.input) c.read_systems.ensures.left _ c.in-Err.printed (rw c.in-Err.is at c.in_ok-systems.ensures.systems))

@@ -5,7 +5,7 @@ use Rattle.std.specs.String.{string_bytes}
 use Rattle.cli_texts.specs.ExportsFiles.{exports_list}
 use Rattle.cli_texts.specs.TableFiles.{named, table_list}
 use Rattle.cli_texts.specs.WholeFiles.{files_of}
-use Rattle.cli_texts.proofs.FilesInTurn.{fails_before, fails_on, once, reads_on}
+use Rattle.cli_texts.proofs.FilesInTurn.{fails_before, fails_on, once, reads_on, turned}
 use Rattle.cli_texts.proofs.whole_files.read_whole_texts.Goals as goal
 
 either : {A B C : Type 0} → (A → C) → A ⊎ B → C ⊎ B
@@ -39,6 +39,7 @@ returns-clause-texts g c =
     record {
       exports = whole.texts;
       read = once (files_of c.args.files) (g.I.Read.remaining c.args.input.now) _ _ c.names_input_twice.ensures c.if-names_input_twice.false
-          (reads_on tables exports (g.I.Read.remaining c.args.input.now) (g.I.Read.remaining c.read_tables.new.input) (map string_bytes (table_list c.in_ok-tables.tables)) whole.texts c.in_ok-tables.ensures.texts whole.read);
+          (reads_on tables exports (g.I.Read.remaining c.args.input.now) (g.I.Read.remaining c.read_tables.new.input) (map string_bytes (table_list c.in_ok-tables.tables)) whole.texts c.in_ok-tables.ensures.texts
+          (turned exports (g.I.Read.remaining c.read_tables.new.input) (g.I.Read.remaining c.read_exports.new.input) whole.texts whole.read));
       whole = whole.are;
     }
