@@ -54,6 +54,7 @@ pub fn sources_of<'a>(paths: &'a SiteFiles, texts: &'a SiteFiles) -> SiteSources
 fn source_of<'a>(path: &'a String, text: &'a String) -> Source<'a>
     ensures path { result.path.now ≡ string_bytes path.now }
     ensures text { result.text.now ≡ string_bytes text.now }
+    ensures origins { result.origins.now ≡ [] }
 {
     Source {
         path: path.as_str(),

@@ -75,7 +75,10 @@ pub fn subject_of<'a>(
 fn fault_of_files(words: &ArgMatches<'_>) -> Option<Failure>
     ensures { result ≡ fault_of_files (rows_in words.now) }
 {
-    let count = all_given(words, "and").map_or(0, |files| files.len());
+    let count = match all_given(words, "and") {
+        Some(files) => files.len(),
+        None => 0,
+    };
     if MOST_FILES < count {
         return Some(Failure::TooManyFiles(count));
     }
