@@ -53,10 +53,11 @@ IsSound (Err fault) = ⊥
 abbrev pub IsConsistent : SiteTexts → Type 0
 IsConsistent texts = IsSound (read_site texts)
 
--- a policy with the file systems and the lines of another; its warnings may be older
+-- a policy with the file systems and the lines of another, and the same names of lines; its warnings may be older
 pub record HasLinesOf (policy content : Content) : Type 0 where
   pub table : content.table ≡ policy.table
   pub rows : content.rows ≡ policy.rows
+  pub origins : content.origins ≡ policy.origins
 
 -- the policy of a consistent site is in force: its file systems and its lines
 pub record IsInForce (texts : SiteTexts) (content : Content) : Type 0 where
