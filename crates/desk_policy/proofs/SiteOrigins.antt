@@ -1,21 +1,10 @@
 -- A site is not read of several texts as one: each exports file numbers its own lines.
-use Rattle.std.proofs.Common.{◌≡◌, [], List, Ok, Result, ap, codes, sym}
-use Rattle.desk_tables.specs.Custodians.{read_custodians}
-use Rattle.desk_tables.specs.FileSystemsText.{read_filesystems}
-use Rattle.desk_tables.specs.declared.custodians.Custodian.{Custodian}
-use Rattle.desk_tables.specs.declared.filesystems.Mount.{Mount}
-use Rattle.desk_policy.specs.Parsing.{content_with, if_listed, in_file, read_after_filesystems, read_files, read_site, read_site_tables, then_read}
+use Rattle.std.proofs.Common.{◌≡◌, [], Ok, ap, sym}
+use Rattle.desk_policy.specs.Laws.{custodians_in, filesystems_in}
+use Rattle.desk_policy.specs.Parsing.{content_with, read_after_filesystems, read_files, read_site, read_site_tables, then_read}
 use Rattle.desk_policy.specs.Policy.{Content}
 use Rattle.desk_policy.specs.Site.{SiteTexts}
-use Rattle.desk_policy.specs.SiteFault.{table_fault}
-use Rattle.desk_policy.specs.declared.site_fault.SiteFault.{SiteFault}
 use Rattle.desk_policy.proofs.SiteLaws.{was_read}
-
-abbrev custodians_in : SiteTexts → Result (List Custodian) SiteFault
-custodians_in texts = in_file (table_fault (codes "custodians")) (read_custodians texts.files.custodians)
-
-abbrev filesystems_in : SiteTexts → List Custodian → Result (List Mount) SiteFault
-filesystems_in texts custodians = in_file (table_fault (codes "filesystems")) (if_listed custodians (read_filesystems texts.files.filesystems))
 
 pub no_origins : (texts : SiteTexts) (content : Content) → read_site texts ≡ Ok content → content.origins ≡ []
 unfolding read_site
