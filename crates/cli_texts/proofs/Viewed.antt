@@ -32,7 +32,7 @@ viewed law in_force read policy (Ok view) is builds =
 viewed law in_force read policy (Err (Fault fault)) is least = least_too law read policy fault is least
 viewed law in_force read policy (Err Memory) is builds = tt
 
--- what is read of these texts, by their tables, which were read before, and a copy of the file systems
+-- what is read of these texts, by their tables, which were read before, and the same file systems
 pub read_known : (sources : WholeSources) (table own : List Mount) (tables : SiteTables) → tables_of sources.tables ≡ Ok tables → own ≡ table → policy_of sources table ≡ read_whole_with Two tables own sources.exports.text.now
 read_known sources table own tables known same =
     ap (λ (read : Result SiteTables SiteFault). policy_with read table sources.exports.text.now) known

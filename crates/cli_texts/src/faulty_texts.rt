@@ -45,7 +45,7 @@ fn print_fault(
     requires exports { IsReadable sources.exports.text.now }
     ensures { IfOk result (PrintsThisFault sources.entry filesystems.now fault.now) }
 {
-    let own = filesystems.copy()?;
+    let own = filesystems.share()?;
     let note = tell_fault(alloc, sources, own, fault)?;
     let text = end_line(fault_text(alloc, fault)?)?;
     Ok(Printed {

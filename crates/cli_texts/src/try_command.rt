@@ -198,7 +198,7 @@ fn decide(
     ensures { let table = asked.entry.filesystems.now in
         GivesOrFault (PrintsVerdict sources.entry table (question_in asked.entry.request.now own.now asked.entry.asking)) (policy_of sources.entry table) result }
 {
-    let filesystems = asked.filesystems.copy()?;
+    let filesystems = asked.filesystems.share()?;
     let question = MountQuestion {
         address: asked.request.address,
         path: &asked.request.path,

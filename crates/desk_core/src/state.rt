@@ -369,7 +369,7 @@ impl<V: PolicyView + Drop> State<V> {
         ensures { ShowsLines V.in_force self.now fs.0 (site_with self.now file.now text.now) result }
     {
         let rows = self.rows_by(alloc, file, text, fs)?;
-        let filesystems = self.site.view.policy().filesystems().copy()?;
+        let filesystems = self.site.view.policy().filesystems().share()?;
         let policy = Policy::of_lines(alloc, filesystems, fs, rows)?;
         V::build(alloc, policy)
     }
