@@ -47,7 +47,7 @@ pub fn answer_question(rt: &HostRuntime, db: &str, asked: Asked<'_>) -> Result<P
 {
     match open_copied_desk(rt, db) {
         Ok(mut desk) => {
-            let printed = answer_by(rt.alloc(), db, &mut desk, asked);
+            let printed = answer_copied_desk(rt.alloc(), db, &mut desk, asked);
             drop(desk);
             printed
         }
@@ -57,7 +57,7 @@ pub fn answer_question(rt: &HostRuntime, db: &str, asked: Asked<'_>) -> Result<P
 
 /// Answers a question by a desk on a copy: first the statements that it takes are made, and then it is answered by what they found. An
 /// error of the copy's disk is reported as out of memory.
-fn answer_by(
+fn answer_copied_desk(
     alloc: Global,
     db: &str,
     desk: &mut CopiedDesk,
@@ -67,13 +67,13 @@ fn answer_by(
     ensures { AnswersOnDesk over_files desk.old (asked_of asked.entry) result }
 {
     match look_up(alloc, desk, asked.question) {
-        Ok(looked) => answer_with(alloc, desk, asked, looked),
+        Ok(looked) => answer_looked_up(alloc, desk, asked, looked),
         Err(error) => refused_by_copy(alloc, db, error),
     }
 }
 
 /// Answers a question by a desk, and by what the statements that it takes have found.
-fn answer_with(
+fn answer_looked_up(
     alloc: Global,
     desk: &CopiedDesk,
     asked: Asked<'_>,

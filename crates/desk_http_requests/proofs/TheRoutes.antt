@@ -9,7 +9,7 @@ use Rattle.matchit.specs.Rows.{RowsOf}
 use Rattle.matchit.specs.Router.{InsertsRead, RouteOf}
 use Rattle.matchit.proofs.OnLiterals.{matchit_on_literals}
 use Rattle.std.specs.Prelude.{find, slice_get}
-use Rattle.desk_http_requests.specs.Routes.{IsRouter, Route, action_in, action_among, route_in, routes}
+use Rattle.desk_http_requests.specs.Routes.{IsRouter, Route, action_in, action_of_method, route_in, routes}
 use Rattle.desk_http_requests.specs.declared.routes.Action.{Action as LentAction}
 use Rattle.desk_http_requests.specs.declared.routes.Route.{Route as LentRoute}
 use Rattle.std.proofs.lemmas.Option.{slice_get-get_or, slice_get-map}
@@ -59,12 +59,12 @@ pub finds_routes : ArePlain the_rows → IsRouter the_rows
 finds_routes plain path = ap (option_map (λ (x : RouteOf ℕ). x.value)) (first_plain the_rows path plain) ∙ found_place 0 routes path ∙ sym (position_from-zero (λ (route : Route). bytes_eq route.path path) routes)
 
 -- what is found among lent rows, by value
-pub found_among : (method : List ℕ) (rows : List LentAction) → option_map action_in (find (λ (row : LentAction). bytes_eq row.method.now method) rows) ≡ action_among method (map action_in rows)
+pub found_among : (method : List ℕ) (rows : List LentAction) → option_map action_in (find (λ (row : LentAction). bytes_eq row.method.now method) rows) ≡ action_of_method method (map action_in rows)
 found_among method [] = refl
 found_among method (row ∷ rows) = by (bytes_eq row.method.now method) (found_among method rows)
   where
-    by : (b : Bool) → option_map action_in (find (λ (r : LentAction). bytes_eq r.method.now method) rows) ≡ action_among method (map action_in rows)
-        → option_map action_in (cond b (Some row) (find (λ (r : LentAction). bytes_eq r.method.now method) rows)) ≡ cond b (Some (action_in row)) (action_among method (map action_in rows))
+    by : (b : Bool) → option_map action_in (find (λ (r : LentAction). bytes_eq r.method.now method) rows) ≡ action_of_method method (map action_in rows)
+        → option_map action_in (cond b (Some row) (find (λ (r : LentAction). bytes_eq r.method.now method) rows)) ≡ cond b (Some (action_in row)) (action_of_method method (map action_in rows))
     by true h = refl
     by false h = h
 

@@ -3,7 +3,7 @@ use Rattle.std.specs.Prelude.{filter}
 use Rattle.desk_policy.specs.PrivateWeights.{has_weight}
 use Rattle.desk_policy.specs.declared.row.Row.{Row}
 use Rattle.desk_policy.proofs.ShownLines.{shown_of_passing}
-use Rattle.desk_policy.proofs.listings.shown_with.Goals as goal
+use Rattle.desk_policy.proofs.listings.shown_of_weight.Goals as goal
 
 pub returns : goal.returns
 returns c =

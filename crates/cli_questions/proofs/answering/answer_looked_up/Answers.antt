@@ -4,7 +4,7 @@ use Rattle.sqlite.specs.Files.{over_files}
 use Rattle.desk_service.specs.Questions.{answer_of, question_of}
 use Rattle.cli_questions.specs.Questions.{asked_of}
 use Rattle.cli_questions.proofs.DeskAnswers.{printed_by, sound}
-use Rattle.cli_questions.proofs.answering.answer_with.Goals as goal
+use Rattle.cli_questions.proofs.answering.answer_looked_up.Goals as goal
 
 pub print_answer-requires : goal.print_answer-requires
 print_answer-requires c =
