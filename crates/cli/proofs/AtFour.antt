@@ -46,7 +46,7 @@ use Rattle.cli_verdict.specs.Ranges.{PrintsRanges}
 use Rattle.cli_verdict.specs.TryText.{MountQuestion, PrintsTried}
 use Rattle.cli_verdict.specs.declared.asking.Asking.{Asking}
 use Rattle.cli_verdict.specs.declared.try_text.Tried.{Tried}
-use Rattle.cli_expectations.specs.Tested.{Expected, PrintsTested}
+use Rattle.cli_expectations.specs.TestedPolicy.{Expected, PrintsTested}
 use Rattle.cli_texts.specs.CheckCommand as check
 use Rattle.cli_texts.specs.ClientsCommand as clients
 use Rattle.cli_texts.specs.CompareCommand as compare

@@ -2,4 +2,4 @@ pub mod BreachesJson
 pub mod FaultPrints
 pub mod Laws
 pub mod PrivateBreachesJson
-pub mod Tested
+pub mod TestedPolicy

@@ -10,4 +10,4 @@ mod breaches_json;
 pub mod expectations_file;
 mod fault_prints;
 pub mod laws;
-pub mod tested;
+pub mod tested_policy;

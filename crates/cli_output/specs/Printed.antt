@@ -4,7 +4,7 @@ use Rattle.std.specs.String.{string_bytes}
 use Rattle.cli_output.specs.declared.failure.Failure.{Failure}
 use Rattle.cli_output.specs.declared.failure.Failure.TheVariants.{Memory}
 use Rattle.cli_output.specs.declared.printed.Printed.{Printed}
-use Rattle.cli_output.specs.Shown.{shown_lines}
+use Rattle.cli_output.specs.ShownLines.{shown_lines}
 
 -- this text is printed, with this exit status; what standard error says beside it is left open
 pub record Prints (status : ℕ) (text : List ℕ) (printed : Printed) : Type 0 where

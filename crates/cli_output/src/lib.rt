@@ -8,4 +8,4 @@
 pub mod bad_argument;
 pub mod failure;
 pub mod printed;
-pub mod shown;
+pub mod shown_lines;

@@ -4,10 +4,10 @@ ghost use Rattle.std.specs.Prelude.{◌≡◌, ◌≢◌, ◌⊎◌, IfOk, OnOk}
 ghost use Rattle.std.specs.Io.KnownBytes.{Appends};
 ghost use Rattle.cli_output.specs.Printed as spec;
 ghost use Rattle.cli_output.specs.Printed.{PrintsAtFour, PrintsFront, SaysOf, SaysSomething};
-ghost use Rattle.cli_output.specs.Shown.{shown_lines};
+ghost use Rattle.cli_output.specs.ShownLines.{shown_lines};
 
 use crate::failure::{Failure, Origin, message};
-use crate::shown::shown_lines;
+use crate::shown_lines::shown_lines;
 use std::alloc::{AllocError, Global};
 use std::io;
 use std::io::{ErrorKind, Write};

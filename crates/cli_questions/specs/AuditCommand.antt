@@ -4,7 +4,7 @@ use Rattle.std.specs.Option.{option_map}
 use Rattle.std.specs.String.{string_bytes}
 use Rattle.clap.specs.Words.{Row, first_of}
 use Rattle.desk_service.specs.Questions.{ForeseeProposedSite, ForeseeSite, Question, Site}
-use Rattle.cli_expectations.specs.Tested.{Expected}
+use Rattle.cli_expectations.specs.TestedPolicy.{Expected}
 use Rattle.cli_output.specs.Failure.{IsMissing}
 use Rattle.cli_output.specs.declared.failure.Failure.{Failure}
 use Rattle.cli_output.specs.declared.failure.Failure.TheVariants.{BesideProposal}

@@ -16,14 +16,14 @@ use Rattle.desk_service.specs.Sites.{WholeSite}
 use Rattle.desk_service.specs.declared.refused.Refused.TheVariants as refused
 use Rattle.cli_output.specs.Failure.{IsUnread}
 use Rattle.cli_output.specs.Printed.{Prints}
-use Rattle.cli_output.specs.Shown.{shown_lines}
+use Rattle.cli_output.specs.ShownLines.{shown_lines}
 use Rattle.cli_output.specs.declared.failure.Failure.{Failure}
 use Rattle.cli_output.specs.declared.printed.Printed.{Printed}
 use Rattle.cli_verdict.specs.Ranges.{PrintsRanges}
 use Rattle.cli_verdict.specs.TryText.{Answer, Answers, MountQuestion, PrintsTried, TellsAbove, answer_on, mount_question_of}
 use Rattle.cli_verdict.specs.declared.try_text.Tried.{Tried}
 use Rattle.cli_desk.specs.RefusalLines.{Says}
-use Rattle.cli_expectations.specs.Tested.{Expected, PrintsTested, expected_of}
+use Rattle.cli_expectations.specs.TestedPolicy.{Expected, PrintsTested, expected_of}
 use Rattle.cli_questions.specs.FileLines.{files_text}
 use Rattle.cli_questions.specs.RevisionLines.{log_text}
 use Rattle.cli_questions.specs.declared.answering.Asked.{Asked as LentAsked}

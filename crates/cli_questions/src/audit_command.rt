@@ -6,7 +6,7 @@ ghost use Rattle.std.specs.Option.{option_map};
 ghost use Rattle.std.specs.Result.{result_map_both};
 ghost use Rattle.std.specs.String.{string_bytes};
 ghost use Rattle.desk_service.specs.Questions.{question_of};
-ghost use Rattle.cli_expectations.specs.Tested.{expected_of};
+ghost use Rattle.cli_expectations.specs.TestedPolicy.{expected_of};
 ghost use Rattle.cli_files.specs.Files.{ReadsFiles, is_input_if_given, name_input_twice};
 ghost use Rattle.cli_words.specs.Words.{rows_in};
 ghost use Rattle.cli_questions.specs.AuditCommand as spec;

@@ -21,10 +21,10 @@ use crate::revision_lines::log_text;
 use cli_desk::View;
 use cli_desk::desks::CopiedDesk;
 use cli_desk::refusal_lines::refused;
-use cli_expectations::tested::print_tested;
+use cli_expectations::tested_policy::print_tested;
 use cli_output::failure::Failure;
 use cli_output::printed::Printed;
-use cli_output::shown::shown_lines;
+use cli_output::shown_lines::shown_lines;
 use cli_verdict::{
     MountQuestion, print_ranges, print_tried, printed_verdict, tried_by, tried_with,
 };

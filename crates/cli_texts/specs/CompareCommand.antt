@@ -11,7 +11,7 @@ use Rattle.desk_server_notes.specs.NewsNote.{TellsNews}
 use Rattle.desk_findings.specs.declared.check_text.WholeSources.{WholeSources}
 use Rattle.cli_output.specs.declared.failure.Failure.{Failure}
 use Rattle.cli_output.specs.Printed.{Prints}
-use Rattle.cli_output.specs.Shown.{shown_lines}
+use Rattle.cli_output.specs.ShownLines.{shown_lines}
 use Rattle.cli_output.specs.declared.printed.Printed.{Printed}
 use Rattle.cli_words.specs.Words.{After, AnswersBy, is_set}
 use Rattle.cli_texts.specs.Subject.{ReadsSubject, places, word_at}

@@ -7,7 +7,7 @@ use Rattle.desk_policy.specs.declared.parsing.SiteTables.{SiteTables}
 use Rattle.desk_findings.specs.CheckText.{tables_of}
 use Rattle.cli_output.specs.declared.failure.Failure.{Failure}
 use Rattle.cli_output.specs.declared.printed.Printed.{Printed}
-use Rattle.cli_expectations.specs.Tested.{Expected, PrintsTested}
+use Rattle.cli_expectations.specs.TestedPolicy.{Expected, PrintsTested}
 use Rattle.cli_words.specs.Words.{After, AnswersBy, is_set}
 use Rattle.cli_texts.specs.Subject.{ReadsSubject, places, word_at}
 use Rattle.cli_texts.specs.Systems.{AfterSystems}

@@ -22,7 +22,7 @@ use crate::whole_tables::view_of;
 use clap::ArgMatches;
 use cli_output::failure::Failure;
 use cli_output::printed::Printed;
-use cli_output::shown::shown_lines;
+use cli_output::shown_lines::shown_lines;
 use cli_words::words::is_set;
 use desk_findings::{WholeSources, read_sources};
 use desk_impact::impact_report;

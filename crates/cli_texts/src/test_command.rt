@@ -18,7 +18,7 @@ use crate::whole_files::whole_files;
 use crate::whole_tables::view_of;
 use clap::ArgMatches;
 use cli_expectations::expectations_file::ExpectationsFile;
-use cli_expectations::tested::print_tested;
+use cli_expectations::tested_policy::print_tested;
 use cli_output::failure::Failure;
 use cli_output::printed::Printed;
 use cli_words::words::is_set;

@@ -18,7 +18,7 @@ use Rattle.desk_server_prints.specs.LeftOutNote.{TellsLeftOut}
 use Rattle.desk_server_prints.specs.GrantingLine.{wider_line, wider_note}
 use Rattle.desk_why.specs.WhyPrints.{why_text}
 use Rattle.cli_output.specs.Printed.{Prints}
-use Rattle.cli_output.specs.Shown.{shown_lines}
+use Rattle.cli_output.specs.ShownLines.{shown_lines}
 use Rattle.cli_output.specs.declared.printed.Printed.{Printed}
 use Rattle.cli_verdict.specs.declared.asking.Asking.{Asking}
 use Rattle.cli_verdict.specs.declared.asking.Asking.TheVariants.{Reasons, Server, Verdict}

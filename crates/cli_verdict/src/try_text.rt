@@ -7,12 +7,12 @@ ghost use Rattle.desk_exports.specs.declared.profile.Profile.TheVariants.{Two};
 ghost use Rattle.desk_policy.specs.Parsing.{read_whole_with};
 ghost use Rattle.desk_policy.specs.Prints.{acting_text, verdict_line};
 ghost use Rattle.desk_policy.specs.Verdict.{verdict_result};
-ghost use Rattle.cli_output.specs.Shown.{shown_lines};
+ghost use Rattle.cli_output.specs.ShownLines.{shown_lines};
 ghost use Rattle.cli_verdict.specs.TryText.{Answers, AnswersHere, AnswersThere, PrintsTried, TellsAbove, Tries, TriesHere, TriesThere, answer_of, answer_on, mount_question_of, reasons_text};
 
 use crate::asking::Asking;
 use cli_output::printed::Printed;
-use cli_output::shown::shown_lines;
+use cli_output::shown_lines::shown_lines;
 use desk_exports::Profile;
 use desk_index::Index;
 use desk_policy::{

@@ -7,7 +7,7 @@ pub mod Judging
 pub mod Laws
 pub mod Meaning
 pub mod Names
-pub mod Outside
+pub mod OutsideDirectories
 pub mod PrivateAudience
 pub mod PrivateFaults
 pub mod PrivateMeaning

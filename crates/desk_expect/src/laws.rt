@@ -1,7 +1,7 @@
 //! What the definitions of this crate keep, each as a function that does nothing.
 
 ghost use Rattle.desk_expect.specs.Laws.{NoBrokenIsAllHold, NoneBrokenIsAllHold, UnreportedLinesHold};
-ghost use Rattle.desk_expect.specs.Outside.{OutsideIsDenied};
+ghost use Rattle.desk_expect.specs.OutsideDirectories.{OutsideIsDenied};
 
 use crate::judging::Judged;
 use desk_impact::no_section_is_nothing_found;

@@ -16,7 +16,7 @@ pub mod judging;
 pub mod laws;
 pub mod meaning;
 pub mod names;
-pub mod outside;
+pub mod outside_directories;
 pub mod reading;
 pub mod report;
 mod report_text;
@@ -32,7 +32,7 @@ pub use judging::Judged;
 pub use laws::{
     no_broken_is_all_hold, none_broken_is_all_hold, outside_is_denied, unreported_lines_hold,
 };
-pub use outside::{Outside, find_outside, outside_text};
+pub use outside_directories::{Outside, find_outside, outside_text};
 pub use reading::read_expectations;
 pub use report::{Broken, TestReport, find_broken, test_report};
 pub use rules::{PlacedFault, Rule};

@@ -30,7 +30,7 @@ use Rattle.desk_exports.specs.declared.rules.Rule.{Rule}
 use Rattle.desk_policy.specs.Parsing.{if_listed, in_file, rows_with, then_read, unless_unlisted, whole_policy}
 use Rattle.desk_policy.specs.Policy.{Content, content_of, with_warnings}
 use Rattle.desk_policy.specs.SiteFault.{group_fault, line_fault, table_fault}
-use Rattle.desk_policy.specs.Unlisted.{has_unlisted, least, unlisted_line}
+use Rattle.desk_policy.specs.UnlistedCustodians.{has_unlisted, least, unlisted_line}
 use Rattle.desk_policy.specs.Warning.{whole_warnings}
 use Rattle.desk_policy.specs.declared.parsing.SiteTables.{SiteTables}
 use Rattle.desk_policy.specs.declared.per_table.PerTable.{PerTable}

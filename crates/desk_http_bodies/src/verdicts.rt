@@ -7,7 +7,7 @@ ghost use Rattle.serde_json.specs.Data.{object, put as put_member, string};
 ghost use Rattle.serde_json.specs.View.{members_view, view as data_of};
 ghost use Rattle.serde_json.specs.Written.{compact_text};
 ghost use Rattle.desk_tables.specs.Credentials.{cred_text};
-ghost use Rattle.desk_policy.specs.Acting as acting;
+ghost use Rattle.desk_policy.specs.ActingAs as acting;
 ghost use Rattle.desk_policy.specs.Verdict.{verdict_result};
 ghost use Rattle.desk_http_bodies.specs.Verdicts as spec;
 ghost use Rattle.desk_http_bodies.specs.Verdicts.{denied_data, flavour_data, flavours_data, grant_data, mapped_cred, map_word, verdict_data};

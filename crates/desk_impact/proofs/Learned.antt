@@ -13,12 +13,12 @@ use Rattle.desk_who.specs.Searching.{AreFoundStarts, ByRule, Rule, found_at}
 use Rattle.desk_who.proofs.Kept.{same_runs}
 use Rattle.desk_impact.specs.Impact.{AreStartsOfChanges, IsImpact, change_value, verdicts_at}
 use Rattle.desk_impact.specs.declared.changes.TwoVerdicts.{TwoVerdicts as KeptVerdicts}
-use Rattle.desk_impact.specs.Known.{IsKnownChange, fs_number}
+use Rattle.desk_impact.specs.KnownSystems.{IsKnownChange, fs_number}
 use Rattle.desk_impact.specs.Places.{Others, place_verdicts, taken_by, verdict_elsewhere}
-use Rattle.desk_impact.specs.PrivateKnown.{AreFoundOfOthers, AreKnownFindings, HasLearnedChange, HasLearnedFindings, IsKnownAt}
+use Rattle.desk_impact.specs.PrivateKnownSystems.{AreFoundOfOthers, AreKnownFindings, HasLearnedChange, HasLearnedFindings, IsKnownAt}
 use Rattle.desk_impact.specs.PrivatePlaces.{IsFree}
 use Rattle.desk_impact.specs.Sections.{found_elsewhere, found_of}
-use Rattle.desk_impact.specs.declared.known.Known.{Known}
+use Rattle.desk_impact.specs.declared.known_systems.Known.{Known}
 use Rattle.desk_impact.proofs.Found.{found_of_others}
 use Rattle.desk_impact.proofs.Reporting.{changes_of_others, same_impact}
 use Rattle.desk_impact.proofs.Same.{Path}

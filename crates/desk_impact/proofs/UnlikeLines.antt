@@ -14,7 +14,7 @@ use Rattle.desk_policy.specs.declared.row.Row.{Row}
 use Rattle.desk_policy.proofs.VerdictLines.{among_agree, lists_same}
 use Rattle.desk_who.specs.Starts.{IsSteadyLine}
 use Rattle.desk_impact.specs.Impact.{AreStartsOfBoth, AreStartsOfChanges, HasNoLine, IsNotListed, mount_at, saying}
-use Rattle.desk_impact.specs.PrivateUnlike.{AreHomes, AreStartsOfUnlike, AreUnlike, IsPast, NoneMatches, matching}
+use Rattle.desk_impact.specs.PrivateUnlikeLines.{AreHomes, AreStartsOfUnlike, AreUnlike, IsPast, NoneMatches, matching}
 use Rattle.desk_impact.proofs.Same.{Path}
 
 -- ---- lists that are the same as far as they were compared

@@ -1,7 +1,7 @@
 pub mod Impact
 pub mod ImpactPrints
-pub mod Beside
-pub mod PrivateBeside
+pub mod MostlySame
+pub mod PrivateMostlySame
 pub mod Places
 pub mod PrivatePlaces
 pub mod Report
@@ -10,6 +10,6 @@ pub mod Sections
 pub mod PrivateSections
 pub mod Writings
 pub mod PrivateWritings
-pub mod Known
-pub mod PrivateKnown
-pub mod PrivateUnlike
+pub mod KnownSystems
+pub mod PrivateKnownSystems
+pub mod PrivateUnlikeLines

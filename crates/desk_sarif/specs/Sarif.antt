@@ -14,7 +14,7 @@ use Rattle.desk_findings.specs.declared.finding.Finding.{Finding}
 use Rattle.desk_findings.specs.declared.finding.Matter.{Matter}
 use Rattle.desk_findings.specs.declared.finding.Matter.TheVariants as matter
 use Rattle.desk_check.specs.FindingPrints.{message_of, other_of}
-use Rattle.desk_check.specs.Ignored.{is_ignored}
+use Rattle.desk_check.specs.IgnoredWarnings.{is_ignored}
 use Rattle.desk_sarif.specs.SarifRules.{log_rules, only, rule_data, rule_id, text_data}
 use Rattle.desk_sarif.specs.SarifUri.{uri_of}
 

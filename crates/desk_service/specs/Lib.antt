@@ -3,6 +3,6 @@ pub mod Files
 pub mod Foreseeing
 pub mod Laws
 pub mod Questions
-pub mod Readable
+pub mod ReadableByInit
 pub mod Refused
 pub mod Sites

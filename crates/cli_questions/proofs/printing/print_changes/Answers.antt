@@ -3,7 +3,7 @@ use Rattle.std.proofs.Common.{◌∙◌, Bool, ap, rules, subst}
 use Rattle.desk_impact.specs.Report.{IsReport}
 use Rattle.desk_policy.specs.Policy.{Content}
 use Rattle.desk_service.specs.Foreseeing.{Foreseen, content_after, foreseen_of}
-use Rattle.cli_output.specs.Shown.{shown_lines}
+use Rattle.cli_output.specs.ShownLines.{shown_lines}
 use Rattle.cli_questions.proofs.printing.print_changes.Goals as goal
 
 pub returns : goal.returns

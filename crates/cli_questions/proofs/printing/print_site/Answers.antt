@@ -3,7 +3,7 @@ use Rattle.std.proofs.Common.{◌≡◌, ap, subst, sym}
 use Rattle.desk_service.specs.Sites.{WholeSite, site_of}
 use Rattle.cli_output.specs.declared.printed.Printed.{Printed}
 use Rattle.cli_verdict.specs.TryText.{mount_question_of}
-use Rattle.cli_expectations.specs.Tested.{expected_of}
+use Rattle.cli_expectations.specs.TestedPolicy.{expected_of}
 use Rattle.cli_questions.specs.Questions.{Breaches, Mounts, PrintsSite, Printer, Ranges, asked_of, printer_of}
 use Rattle.cli_questions.specs.declared.answering.Printer.{Printer as LentPrinter}
 use Rattle.cli_questions.proofs.DeskAnswers.{exports_printed, shows_exports}

@@ -1,6 +1,6 @@
 -- What changes to the policy of NEW is reported.
 use Rattle.std.proofs.Common.{◌∙◌, ap, rules}
-use Rattle.cli_output.specs.Shown.{shown_lines}
+use Rattle.cli_output.specs.ShownLines.{shown_lines}
 use Rattle.cli_texts.proofs.compare_command.print_changes.Goals as goal
 
 pub returns : goal.returns

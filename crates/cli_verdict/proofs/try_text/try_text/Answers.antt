@@ -15,7 +15,7 @@ use Rattle.desk_policy.specs.declared.verdict.Denial.{Denial}
 use Rattle.desk_server.specs.Server.{server_verdict_of}
 use Rattle.desk_server_prints.specs.GrantingLine.{wider_line, wider_note}
 use Rattle.desk_why.specs.WhyPrints.{line_named, lines_text, why_in}
-use Rattle.cli_output.specs.Shown.{shown_lines}
+use Rattle.cli_output.specs.ShownLines.{shown_lines}
 use Rattle.cli_verdict.specs.TryText.{AnswersBy, AnswersHere, AnswersThere, MountQuestion, Tries, answer_above, answer_on, mount_question_of, reasons_if}
 use Rattle.cli_verdict.specs.declared.asking.Asking.{Asking}
 use Rattle.cli_verdict.specs.declared.asking.Asking.TheVariants.{Reasons, Server, Verdict}
