@@ -273,17 +273,11 @@ prints_why None content reasons printed is = prints _ 0 printed not_0 is
 prints_answer : (asked : Asked) (answer : given.Answer) (printed : Printed) → PrintsAnswer asked answer printed → Fine (Ok printed)
 prints_answer asked (given.VerdictIs content verdict) printed is = prints _ _ printed (none_of _ 0 1 not_0 not_1) is
 prints_answer asked (given.WhyIs content reasons) printed is = prints_why (mount_in asked.printer) content reasons printed is
-prints_answer asked (given.ListingIs content listing) printed is = prints _ 0 printed not_0 is
-prints_answer asked (given.ExportsAre content) printed is = prints _ 0 printed not_0 is
-prints_answer asked (given.RangesAre content runs) printed is = prints _ 0 printed not_0 is
-prints_answer asked (given.TextIs stored) printed is = prints _ 0 printed not_0 is
-prints_answer asked (given.RevisionsAre revisions) printed is = prints _ 0 printed not_0 is
-prints_answer asked (given.ProposalIs proposal) printed is = prints _ 0 printed not_0 is
 prints_answer asked given.NoRevision printed is = says refused.NoRevision printed is
-prints_answer asked (given.FilesAre listed) printed is = prints _ 0 printed not_0 is
 prints_answer asked (given.ForeseenIs foreseen) printed is = prints _ _ printed (none_of _ 0 1 not_0 not_1) is.prints
 prints_answer asked (given.SiteIs site) printed is = prints_site site asked.printer printed is
 prints_answer asked (given.RefusedBy refusal) printed is = says (refused.Edit refusal) printed is
+prints_answer asked answer printed is = prints _ 0 printed not_0 is
 
 asks : (path : List ℕ) (asked : Asked) (result : Result Printed Failure) → AnswersQuestion path asked result → Fine result
 asks path asked (Ok printed) (inl is) = says refused.Store printed is

@@ -35,7 +35,7 @@ text_in None = []
 text_in (Some text) = text
 
 -- one row more
-pub inserted : (i : ℕ) → i < 6 → (text : List ℕ) → slice_get paths i ≡ Some text → (old new : RowsOf (RouteOf ℕ)) → old ≡ take i the_rows → InsertsRead (parse_route text) i old new (Ok tt) → new ≡ take (i + 1) the_rows
+pub inserted : (i : ℕ) → i < length routes → (text : List ℕ) → slice_get paths i ≡ Some text → (old new : RowsOf (RouteOf ℕ)) → old ≡ take i the_rows → InsertsRead (parse_route text) i old new (Ok tt) → new ≡ take (i + 1) the_rows
 unfolding matchit_on_literals
 inserted zero below text at old new is adds = (subst (λ o. InsertsRead (parse_route (get_or paths 0 [])) 0 o new (Ok tt)) is (subst (λ t. InsertsRead (parse_route t) 0 old new (Ok tt)) (sym (ap text_in at)) adds)).1
 inserted (suc zero) below text at old new is adds = (subst (λ o. InsertsRead (parse_route (get_or paths 1 [])) 1 o new (Ok tt)) is (subst (λ t. InsertsRead (parse_route t) 1 old new (Ok tt)) (sym (ap text_in at)) adds)).1
@@ -75,5 +75,6 @@ path_in items is place other below =
     ∙ slice_get-map (λ (route : Route). route.path) (map route_in items) place
     ∙ ap (option_map (λ (route : Route). route.path)) (slice_get-map route_in items place ∙ ap (option_map route_in) (slice_get-get_or items place other below))
 
-pub six : (items : List LentRoute) → map route_in items ≡ routes → length items ≡ 6
-six items is = sym (length-map items route_in) ∙ ap length is
+-- the lent table has as many routes
+pub as_many : (items : List LentRoute) → map route_in items ≡ routes → length items ≡ length routes
+as_many items is = sym (length-map items route_in) ∙ ap length is
