@@ -28,13 +28,11 @@ use cli_output::shown_lines::shown_lines;
 use cli_verdict::{
     MountQuestion, print_ranges, print_tried, printed_verdict, tried_by, tried_with,
 };
-use desk_core::Foresight;
+use desk_core::{Foresight, Proposal};
 use desk_impact::{Report, impact_report, lines_report};
 use desk_policy::{Policy, PolicyView, Verdict, all_exports, all_terms, listing_text};
 use desk_server_notes::news_note;
-use desk_service::{
-    Answer, FileText, Foreseen, Looked, ProposalText, Question, Refused, WholeSite, answer,
-};
+use desk_service::{Answer, FileText, Foreseen, Looked, Question, Refused, WholeSite, answer};
 use desk_who::who_text;
 use std::alloc::{AllocError, Global};
 
@@ -68,7 +66,7 @@ pub(crate) fn print_answer(
             alloc,
             log_text(alloc, name_in(asked.question), revisions.as_slice()),
         ),
-        Answer::Proposal(proposal) => print_proposal(alloc, name_in(asked.question), &proposal),
+        Answer::Proposal(proposal) => print_proposal(alloc, name_in(asked.question), proposal),
         Answer::NoRevision => {
             let note = no_revision_note(alloc, asked.question)?;
             refused(alloc, Refused::NoRevision, note)
@@ -177,7 +175,7 @@ fn print_revision(alloc: Global, name: &str, text: &FileText) -> Result<Printed,
 }
 
 /// Prints the text of a proposal. Standard error says who proposes it, and on which revision.
-fn print_proposal(alloc: Global, name: &str, proposal: &ProposalText) -> Result<Printed, Failure>
+fn print_proposal(alloc: Global, name: &str, proposal: &Proposal) -> Result<Printed, Failure>
     ensures { PrintsText 0 proposal.now.body result }
 {
     let note = proposal_note(alloc, name, proposal.author.as_str(), proposal.base)?;

@@ -20,7 +20,7 @@ reply_of (asked.Listing address) own (asked.ListingIs content systems) = reply_w
 reply_of (asked.Who path) own (asked.RangesAre content ranges) = reply_with 200 (who_data content path ranges)
 reply_of (asked.Text name rev) own (asked.TextIs text) = reply_with 200 (file_data name text)
 reply_of (asked.OfFile name what) own (asked.RevisionsAre revisions) = reply_with 200 (revisions_data name revisions)
-reply_of (asked.OfFile name what) own (asked.ProposalIs text) = reply_with 200 (proposal_data name text)
+reply_of (asked.OfFile name what) own (asked.ProposalIs proposal) = reply_with 200 (proposal_data name proposal)
 reply_of question own answer = refused_reply refused.NoRevision
 
 -- this is replied to a question by a history: the answer by that history, printed

@@ -97,7 +97,7 @@ fn answer_kept<'a, S: Alter + Drop, V: PolicyView + Drop>(
             Some(_) => unreachable!(),
         },
         Question::OfFile(name, what) => match what {
-            FileQuestion::Proposal => proposal_answer(alloc, desk, name),
+            FileQuestion::Proposal => Ok(proposal_answer(desk, name)),
             // This takes statements.
             FileQuestion::Revisions => unreachable!(),
         },

@@ -27,7 +27,7 @@ pub use files::{ListedFile, ListedFiles, Mark};
 pub use foreseeing::Foreseen;
 pub use laws::{edits_put_the_site_that_was_foreseen, edits_put_what_was_foreseen};
 pub use lending::lend_state;
-pub use questions::{Answer, FileQuestion, FileText, Looked, ProposalText, Question};
+pub use questions::{Answer, FileQuestion, FileText, Looked, Question};
 pub use readable_by_init::read_by_second;
 pub use refused::Refused;
 pub use sites::WholeSite;
