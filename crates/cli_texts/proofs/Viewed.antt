@@ -14,11 +14,6 @@ use Rattle.desk_findings.specs.CheckText.{tables_of}
 use Rattle.desk_findings.specs.declared.check_text.WholeSources.{WholeSources}
 use Rattle.cli_texts.specs.WholeTables.{GivesOrFault, Writes, policy_of, policy_with}
 
--- a fault of what is read without warnings is one of what is read with them
-pub faulty_read : (read : Result Content SiteFault) (fault : SiteFault) → without_warnings read ≡ Err fault → IsFaultOf read fault
-faulty_read (Ok content) fault is = cc
-faulty_read (Err first) fault is = cc
-
 least_too : (law : WarningsChangeNoAnswer) (read : Result Content SiteFault) (policy : Content) (fault : SiteFault) → without_warnings read ≡ Ok policy → IsLeastContradiction policy fault → IsFaultOf read fault
 least_too law (Ok content) policy fault is least =
     let same : policy ≡ with_warnings content [] = cc in

@@ -11,7 +11,7 @@ use Rattle.desk_expect.specs.PrivateReading.{AnswersLine, ReadsLine}
 use Rattle.desk_expect.specs.Reading.{AreExpectationsOf, answered, line_answer}
 use Rattle.desk_expect.specs.declared.expectation.Expectation.{Expectation}
 use Rattle.desk_expect.specs.declared.rules.Rule.{Rule}
-use Rattle.desk_expect.proofs.Lines.{AllGood, all_good, first_faulty, good_more, none_yet, zip_push}
+use Rattle.desk_expect.proofs.Lines.{AllGood, all_good, first_faulty, good_more, zip_push}
 
 module _ (netgroups : List GroupLine) (hosts : List HostRow) where
   -- no line is faulty, and the expectations are what the lines promise
@@ -19,13 +19,6 @@ module _ (netgroups : List GroupLine) (hosts : List HostRow) where
     pub promises : List Promise
     pub good : AllGood (answered netgroups hosts) lines promises
     pub are : AreExpectationsOf netgroups hosts promises found
-
-  pub nothing_yet : (found : List Expectation) → found ≡ [] → AreGathered [] found
-  nothing_yet found none = record {
-    promises = [];
-    good = none_yet (answered netgroups hosts);
-    are = subst (AreExpectationsOf netgroups hosts []) (sym none) tt;
-  }
 
   pub one_more : (lines : List LogicalLine) (i : ℕ) (line : LogicalLine) → i < length lines → line ≡ get_or lines i line → (expectation : Expectation)
       → AnswersLine netgroups hosts (line_answer netgroups hosts line) expectation → (old new : List Expectation) → new ≡ old ++ expectation ∷ []

@@ -1,5 +1,5 @@
 -- What a connection made of bytes that it was given.
-use Rattle.std.proofs.Common.{◌≡◌, ◌⊎◌, inl, inr, refl, sym, ap, ◌∙◌, subst, ℕ, ◌+◌, Bool, false, List, [], ◌∷◌, ◌++◌, Option, None, Some, append-nil, append_assoc, arith}
+use Rattle.std.proofs.Common.{◌≡◌, ◌⊎◌, inl, inr, sym, ap, ◌∙◌, subst, ℕ, ◌+◌, Bool, false, List, [], ◌∷◌, ◌++◌, Option, None, Some, append-nil, append_assoc, arith}
 use Rattle.std.proofs.lemmas.List.{append_cancel_right}
 use Rattle.std.specs.Prelude.{◌≢◌}
 use Rattle.std.specs.Io.KnownBytes.{IsAtEnd}
@@ -16,14 +16,6 @@ something : (rest : List ℕ) → rest ++ 0 ∷ [] ≡ [] → ⊥
 something [] h = cc
 something (b ∷ rest) h = cc
 
--- no bytes are parts of none
-front_none : (found rest : List ℕ) → [] ≡ found ++ rest → found ≡ []
-front_none [] rest h = refl
-front_none (b ∷ found) rest h = absurd (none_more h)
-  where
-    none_more : [] ≡ b ∷ (found ++ rest) → ⊥
-    none_more is = cc
-
 -- some bytes, behind which more may follow
 module _ (p q : Place) (all rest found : List ℕ) (consumed : all ++ 0 ∷ [] ≡ found ++ (rest ++ 0 ∷ [])) where
   parts : all ≡ found ++ rest
@@ -39,9 +31,3 @@ module _ (p q : Place) (all rest found : List ℕ) (consumed : all ++ 0 ∷ [] �
   pub takes_in : (result : Option End) (reads : ℕ) (failed : Bool) → ReadMoves p found result q → reads + p.reads ≡ q.reads → EndsRead result q.reads failed (Some (rest ++ 0 ∷ [])) → (failed ≡ false → reads ≢ 0 → rest ≡ []) → TakesIn p all result q
   takes_in None reads failed moves counted ends left = subst (λ b. Moves p (Came b) q) (whole (left ends (one_more reads p.reads q.reads counted moves.4))) moves
   takes_in (Some end) reads failed moves counted ends left = (found, rest, parts, moves, inr (fault end ends.1))
-
--- the end of the input
-pub takes_end : (p q : Place) (all rest found : List ℕ) (result : Option End) → all ≡ [] → [] ≡ found ++ rest → ReadMoves p found result q → TakesIn p all result q
-takes_end p q all rest found None none consumed moves = subst (λ b. Moves p (Came b) q) (front_none found rest consumed ∙ sym none) moves
-takes_end p q all rest found (Some end) none consumed moves =
-    (found, [], none ∙ sym (front_none found rest consumed) ∙ sym (append-nil found), moves, inl (none, refl))

@@ -61,10 +61,6 @@ known_last known one old new is is' = record {
   new_is = is';
 }
 
--- what is known of file systems is known of those that they are
-pub known_as : {T : Type 0} (known : List (Known T)) (was will old new : Option ℕ) (place : ℕ) → was ≡ old → will ≡ new → IsKnownAt known was will place → IsKnownAt known old new place
-known_as known was will old new place is is' at = record { one = at.one; within = at.within; there = at.there; old_is = at.old_is ∙ is; new_is = at.new_is ∙ is' }
-
 module _ (path other : Path) (taken : List Path) (free : IsFree path taken other) where
   pub learned_change : (old new : Content) (known : List (Known KeptVerdicts)) (one : Known KeptVerdicts) (place : ℕ) → All (Contains taken) (taken_by old new) → place ≡ length known
       → fs_number one.old ≡ fs_of old.table path → fs_number one.new ≡ fs_of new.table path → AreStartsOfChanges old new path one.starts → IsImpact old new (verdicts_at old new other) (map change_value one.found)

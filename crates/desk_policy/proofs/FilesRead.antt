@@ -90,13 +90,6 @@ module _ (texts : SiteTexts) (table : List Mount) (site_tables : SiteTables) whe
       ascending = All-push (λ (f : ExportsFile). AreAscending f.rows) so_far.files adds.file so_far.ascending adds.ascending;
     }
 
-    pub one_faulty : (rows rows' : List (List Row)) (warnings warnings' : List Warning) (fault : SiteFault) → FilesRead texts table site_tables i rows rows' warnings warnings'
-        → one i mount ≡ Err fault → read_files texts table site_tables 0 table ≡ Err fault
-    one_faulty rows rows' warnings warnings' fault so_far e =
-        so_far.is
-        ∙ ap (λ mounts. then_read (read_files texts table site_tables i mounts) (and_then_more so_far.files)) dropped
-        ∙ ap (λ file. then_read (then_read file (λ f. then_read (read_files texts table site_tables (i + 1) (drop (i + 1) table)) (λ more. Ok (f ∷ more)))) (and_then_more so_far.files)) e
-
   pub all_read : (i : ℕ) → i ≡ length table → drop i table ≡ [] → (rows rows' : List (List Row)) (warnings warnings' : List Warning) → FilesRead texts table site_tables i rows rows' warnings warnings'
       → AddsFiles (read_files texts table site_tables 0 table) (length table) rows rows' warnings warnings'
   all_read i end none rows rows' warnings warnings' so_far = record {

@@ -161,8 +161,5 @@ none_found None e = cc
 none_found (Some i) e = cc
 
 module _ (content : Content) (address : ℕ) (mount : Path) (table : List Mount) (is : table ≡ content.table) where
-  pub shown_found : (fs : FsId) → Some fs ≡ option_map (λ i. record { 0 = i }) (fs_of table mount) → shown_of_system content address fs.0 ≡ shown_of_mount content address mount
-  shown_found fs e = sym (ap (option_and_then (shown_of_system content address)) (ap (λ t. fs_of t mount) (sym is) ∙ number_found (fs_of table mount) fs e))
-
   pub shown_nowhere : no_fs ≡ option_map (λ i. record { 0 = i }) (fs_of table mount) → None ≡ shown_of_mount content address mount
   shown_nowhere e = sym (ap (option_and_then (shown_of_system content address)) (ap (λ t. fs_of t mount) (sym is) ∙ none_found (fs_of table mount) e))

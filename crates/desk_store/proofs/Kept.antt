@@ -154,7 +154,3 @@ pub no_fault : (rows : List Row) (kept : List Revision) (fault : Option Ungather
 no_fault rows kept None none of = of
 no_fault rows kept (Some Foreign) none of = absurd (cc)
 no_fault rows kept (Some Memory) none of = absurd (cc)
-
--- no row
-pub nothing_gathered : AreOf [] []
-nothing_gathered = record { revisions = []; of_rows = refl; unapproved = All-from_recursion IsUnapproved [] tt; storable = All-from_recursion IsStorable [] tt; are_kept = none_kept }

@@ -1,5 +1,5 @@
 -- The addresses at which something may be found, among those at which lines begin or cease to match.
-use Rattle.std.proofs.Common.{◌≡◌, ◌∙◌, ◌⊎◌, ℕ, ◌+◌, ◌||◌, Bool, true, false, List, [], ◌∷◌, ◌++◌, Option, None, Some, ap, eqb, inl, inr, refl, subst, sym}
+use Rattle.std.proofs.Common.{◌≡◌, ◌∙◌, ◌⊎◌, ℕ, ◌+◌, ◌||◌, Bool, true, false, List, [], ◌∷◌, ◌++◌, Option, None, Some, ap, eqb, inl, inr, refl, sym}
 use Rattle.std.proofs.lemmas.Bool.{cases_Bool, eq-eqb, eqb-true, or_left, or_right, true≢false, false_from_ne_true}
 use Rattle.desk_text.specs.AddrSet.{is_among}
 use Rattle.desk_text.specs.declared.address.Addr.{Addr}
@@ -56,15 +56,6 @@ module _ {T : Type 0} (found : Addr → List (List ℕ) → Option T → Type 0)
     silent = λ n there away. elim (pushed n x seen there) [
       | inl before ↦ left.silent n before (not_yet n x sought away)
       | inr is ↦ absurd (true≢false (sym (ap (λ m. is_among m (sought ++ x ∷ [])) (sym is) ∙ last_is x sought) ∙ away))
-    ];
-  }
-
-  pub one_silent : (seen sought : List ℕ) (x : ℕ) → IsSilent found turns x → AreLeft seen sought → AreLeft (seen ++ x ∷ []) sought
-  one_silent seen sought x silent left = record {
-    inside = λ n there. still n x seen (left.inside n there);
-    silent = λ n there away. elim (pushed n x seen there) [
-      | inl before ↦ left.silent n before away
-      | inr is ↦ subst (IsSilent found turns) is silent
     ];
   }
 
