@@ -1,5 +1,5 @@
 -- The site of heads, one head after another.
-use Rattle.std.proofs.Common.{◌≡◌, ◌∙◌, inl, inr, sym, ap, subst, refl, ℕ, ◌+◌, ◌<◌, ◌≤◌, ◌++◌, Bool, true, false, cond, List, [], ◌∷◌, Option, Some, Result, Ok, Err, IfOk, All, ◌-◌, length, get_or, drop, arith}
+use Rattle.std.proofs.Common.{◌≡◌, ◌∙◌, inl, inr, sym, ap, subst, refl, ℕ, ◌+◌, ◌<◌, ◌≤◌, ◌++◌, Bool, true, false, cond, List, [], ◌∷◌, Option, Some, Result, Ok, Err, All, ◌-◌, length, get_or, drop, arith}
 use Rattle.std.specs.Prelude.{codes, find, None}
 use Rattle.std.specs.List.{AllByRecursion}
 use Rattle.std.specs.Option.{option_map_or}
@@ -164,10 +164,6 @@ pub drop_back : (xs : List Head) (n : ℕ) (h : Head) → 0 < n → n ≤ length
 drop_back xs n h from to e =
     let next : n ≡ n - 1 + 1 = omega arith in
     ap (λ x. x ∷ drop n xs) e ∙ ap (λ k. get_or xs (n - 1) h ∷ drop k xs) next ∙ sym (at_drop_more (λ ys. ys) xs (n - 1) h (omega arith))
-
-pub if_ok : {T E : Type 0} (P Q : T → Type 0) (r : Result T E) → ((x : T) → P x → Q x) → IfOk r P → IfOk r Q
-if_ok P Q (Ok x) f h = f x h
-if_ok P Q (Err e) f h = h
 
 -- only the text and the profile of the newest revisions count, and not who wrote them
 pub same_site : (newest : Newest) (h other : Head) → h.file ≡ other.file → revision_text h ≡ revision_text other → site_in (put newest h) ≡ site_in (put newest other)

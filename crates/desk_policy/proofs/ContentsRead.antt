@@ -17,10 +17,6 @@ pub site_refused : (texts : SiteTexts) (error : ReadError SiteFault) → Reads {
 site_refused texts (Fault fault) told = told
 site_refused texts Memory told = tt
 
-pub policy_refused : (texts : SiteTexts) (error : ReadError SiteFault) → ReadsSite (Err error) texts → Reads {X = Content} (Err error) (read_site texts)
-policy_refused texts (Fault fault) told = told
-policy_refused texts Memory told = tt
-
 -- so it is after the file systems
 pub after_refused : (texts : SiteTexts) (table : List Mount) (error : ReadError SiteFault) → ReadsAfter (Err error) texts table → Reads {X = Content} (Err error) (read_after_filesystems texts table)
 after_refused texts table (Fault fault) told = told

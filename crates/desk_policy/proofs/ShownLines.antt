@@ -148,11 +148,6 @@ module _ (content : Content) (fs : ℕ) (address : ℕ) (rows : List Row) (is : 
   pub shown_of_none : IsGreatest rows address None → None ≡ shown_of_system content address fs
   shown_of_none none = ap (shown_of_selected content fs) (sym (selected-none rows address none) ∙ ap (λ rs. selected rs address) is)
 
--- what is shown at a mount point, by the file system that was found
-number_found : (o : Option ℕ) (fs : FsId) → Some fs ≡ option_map (λ i. record { 0 = i }) o → o ≡ Some fs.0
-number_found None fs e = cc
-number_found (Some i) fs e = let s : fs ≡ record { 0 = i } = cc in sym (ap (λ (f : FsId). Some f.0) s)
-
 abbrev no_fs : Option FsId
 no_fs = None
 

@@ -1,6 +1,6 @@
 -- The line by which mountd grants what no selected line lists: the first of the heaviest that name the client and list it.
 use Rattle.std.proofs.Common.{◌≡◌, ◌∙◌, ℕ, ◌<◌, ◌≤◌, ◌&&◌, Bool, true, false, List, [], ◌∷◌, Option, Some, None, ap, arith, inl, inr, refl, subst, sym}
-use Rattle.std.specs.Prelude.{Result, Ok, Err, filter, find}
+use Rattle.std.specs.Prelude.{Result, Err, filter, find}
 use Rattle.std.specs.List.{Contains, list_all, list_any}
 use Rattle.std.proofs.lemmas.Bool.{and_from, cases_Bool, cases_lt, cond-false, eqb-true, le-leb, lt-ltb, true≢false}
 use Rattle.std.proofs.lemmas.List.Elements.{Contains-append_right, filter_agree}
@@ -179,7 +179,3 @@ pub no_line : (content : Content) (address : ℕ) (path : List (List ℕ)) (own 
 unfolding verdict_of server_verdict_of
 no_line content address path own v =
     sym (ap (λ (r : Result Grant Denial). wider_line r (server_verdict_of content address path)) v ∙ matched content address path own (fs_of content.table path) v)
-
-pub granted : (content : Content) (address : ℕ) (path : List (List ℕ)) (grant : Grant) → verdict_of content address path ≡ Ok grant
-    → None ≡ wider_line (verdict_of content address path) (server_verdict_of content address path)
-granted content address path grant v = sym (ap (λ (r : Result Grant Denial). wider_line r (server_verdict_of content address path)) v)
