@@ -9,13 +9,13 @@ use Rattle.desk_tables.specs.FileSystems.{fs_of}
 use Rattle.desk_tables.specs.declared.filesystems.FsId.{FsId}
 use Rattle.desk_index.proofs.SelectedLines.{lists_same}
 use Rattle.desk_policy.specs.Policy.{Content, rows_of}
-use Rattle.desk_policy.specs.Verdict.{Grant, granted_by, lists, lists_here, verdict_among, verdict_in, verdict_of}
+use Rattle.desk_policy.specs.Verdict.{Grant, granted_by, lists, verdict_among, verdict_in, verdict_of}
 use Rattle.desk_policy.specs.Weights.{is_at_most, is_greatest, selected, weight_of}
 use Rattle.desk_policy.specs.declared.row.Row.{Row}
 use Rattle.desk_policy.specs.declared.verdict.Denial.{Denial}
 use Rattle.desk_policy.specs.declared.verdict.Denial.TheVariants.{NoFileSystem, NoLine, NotListed}
 use Rattle.desk_idle.proofs.Looks.{none_passes}
-use Rattle.desk_server.specs.Server.{asked, for_everybody, granted_on, granting, is_everybody, is_named, named, server_verdict_among, server_verdict_by, server_verdict_in, server_verdict_of}
+use Rattle.desk_server.specs.Server.{asked, for_everybody, granted_on, granting, is_everybody, is_named, named, server_verdict_by, server_verdict_in, server_verdict_of}
 use Rattle.desk_server.proofs.Asking.{asked_everybody, asked_named}
 use Rattle.desk_server.proofs.Granting.{server_here}
 use Rattle.desk_server.proofs.Lists.{filter-filter, has_kept, kept_has, passing}
