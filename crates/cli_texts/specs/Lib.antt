@@ -19,4 +19,5 @@ pub mod TestCommand
 pub mod TryCommand
 pub mod TwoFiles
 pub mod WholeFiles
+pub mod WholeQuestion
 pub mod WholeTables

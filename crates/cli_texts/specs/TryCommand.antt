@@ -22,6 +22,7 @@ use Rattle.cli_texts.specs.Systems.{AfterSystems}
 use Rattle.cli_texts.specs.TableFiles.{ReadsSources, input_count}
 use Rattle.cli_texts.specs.declared.subject.Subject.{Subject}
 use Rattle.cli_texts.specs.declared.try_command.Asked as code
+use Rattle.cli_texts.specs.declared.try_command.TryQuestion.{TryQuestion}
 use Rattle.cli_verdict.specs.Asking.{asking_in}
 use Rattle.cli_verdict.specs.TryText.{IsAnswerBy, MountQuestion, PrintsTried}
 use Rattle.cli_verdict.specs.declared.asking.Asking.{Asking}
@@ -50,6 +51,10 @@ pub record Asked : Type 0 where
 
 abbrev pub asked_of : code.Asked → Asked
 asked_of asked = record { word = option_map (λ word. word.now) asked.word; asking = asked.asking; request = asked.request.now; filesystems = asked.filesystems.now }
+
+-- a question with these file systems
+abbrev pub asked_in : TryQuestion → List Mount → Asked
+asked_in question table = record { word = option_map (λ word. word.now) question.word; asking = question.asking; request = question.request.now; filesystems = table }
 
 -- the answer to a request of a client with this credential, if it is given
 abbrev pub AnswersAs : Asked → WholeSources → Option Cred → Result Printed Failure → Type 0

@@ -26,6 +26,7 @@ pub mod test_command;
 pub mod try_command;
 mod two_files;
 mod whole_files;
+mod whole_question;
 mod whole_tables;
 
 use desk_index::Index;

@@ -1,20 +1,17 @@
 //! The command `try`: one verdict over one exports text.
 
-ghost use Rattle.std.specs.Prelude.{◌≡◌, Err, Ok, map};
+ghost use Rattle.std.specs.Prelude.{◌≡◌, Err, Ok};
 ghost use Rattle.desk_text.specs.Lines.{IsReadable};
 ghost use Rattle.desk_text.specs.Reading.{Reads};
 ghost use Rattle.desk_findings.specs.CheckFaults.{AreReadable};
 ghost use Rattle.desk_findings.specs.CheckText.{tables_of};
 ghost use Rattle.cli_words.specs.Words.{rows_in};
-ghost use Rattle.cli_texts.specs.TryCommand.{AnswersFiles, AnswersRequest, AnswersSubject, AnswersTry, AnswersTryAs, PrintsVerdict, ReadsRequest, asked_of, question_in};
-ghost use Rattle.cli_texts.specs.TableFiles.{named};
-ghost use Rattle.cli_texts.specs.WholeFiles.{file_list};
+ghost use Rattle.cli_texts.specs.TryCommand.{AnswersRequest, AnswersSubject, AnswersTry, AnswersTryAs, PrintsVerdict, ReadsRequest, asked_in, asked_of, question_in};
 ghost use Rattle.cli_texts.specs.WholeTables.{GivesOrFault, policy_of};
 
 use crate::faulty_texts::answer_error;
 use crate::subject::{Places, Subject, subject_of, word_of};
-use crate::systems::read_systems;
-use crate::whole_files::{WholeFiles, read_whole_texts, whole_files, whole_inputs, whole_sources};
+use crate::whole_question::{WholeQuestion, answer_whole};
 use clap::ArgMatches;
 use cli_output::failure::Failure;
 use cli_output::printed::Printed;
@@ -75,43 +72,47 @@ fn answer_subject<'w, I: BufRead>(
     ensures { AnswersSubject asking (rows_in words.now) (I.remaining input.old) subject.now result }
 {
     let request = words_request(rt.alloc(), words, subject)?;
-    let files = whole_files(words, subject, "FILE");
-    let others = whole_inputs(files);
-    let systems = read_systems(rt, words, subject, others, input)?;
-    match systems {
-        Ok(filesystems) => {
-            let asked = Asked {
-                word: given(words, "as"),
-                asking,
-                request: &request,
-                filesystems: &filesystems,
-            };
-            answer_files(rt, asked, files, input)
-        }
-        Err(printed) => Ok(printed),
+    let question = TryQuestion {
+        word: given(words, "as"),
+        asking,
+        request: &request,
+    };
+    answer_whole(rt, words, subject, &question, input)
+}
+
+/// A request as it is asked, with the word of a credential, if it is given.
+struct TryQuestion<'a> {
+    word: Option<&'a str>,
+    asking: Asking,
+    request: &'a Request,
+}
+
+impl WholeQuestion for TryQuestion<'_> {
+    ghost Answers = { λ question table. AnswersRequest (asked_in question table) };
+
+    fn answer(
+        &self,
+        alloc: Global,
+        filesystems: &FileSystems,
+        sources: WholeSources<'_>,
+    ) -> Result<Printed, Failure> {
+        let asked = Asked {
+            word: self.word,
+            asking: self.asking,
+            request: self.request,
+            filesystems,
+        };
+        answer_request(alloc, asked, sources)
     }
 }
 
-/// A request as it is asked: with the word of a credential, if it is given, and the file systems.
+/// The same, with the file systems.
 #[derive(Clone, Copy)]
 struct Asked<'a> {
     word: Option<&'a str>,
     asking: Asking,
     request: &'a Request,
     filesystems: &'a FileSystems,
-}
-
-/// Answers a request by these files.
-fn answer_files<I: BufRead>(
-    rt: &HostRuntime,
-    asked: Asked<'_>,
-    files: WholeFiles<'_>,
-    input: &mut I,
-) -> Result<Printed, Failure>
-    ensures { AnswersFiles (asked_of asked.entry) (map named (file_list files.entry)) (I.remaining input.old) result }
-{
-    let texts = read_whole_texts(rt, files, input)?;
-    answer_request(rt.alloc(), asked, whole_sources(files, &texts))
 }
 
 /// Parses the request that the words HOST and DIR write.

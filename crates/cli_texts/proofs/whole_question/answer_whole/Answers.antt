@@ -3,10 +3,10 @@ use Rattle.std.proofs.Common.{◌∙◌, List, Option, ap, codes, subst, ℕ}
 use Rattle.std.proofs.lemmas.Result.{err_from_is_err_and}
 use Rattle.cli_words.specs.Words.{rows_in}
 use Rattle.cli_texts.specs.TableFiles.{input_count}
-use Rattle.cli_texts.specs.TermsCommand.{AnswersFiles}
 use Rattle.cli_texts.specs.WholeFiles.{whole_files}
+use Rattle.cli_texts.specs.WholeQuestion.{AnswersFiles}
 use Rattle.cli_texts.proofs.AskedSystems.{with_fault, with_table, without}
-use Rattle.cli_texts.proofs.terms_command.answer_subject.Goals as goal
+use Rattle.cli_texts.proofs.whole_question.answer_whole.Goals as goal
 
 pub returns-in_err-systems : goal.returns-in_err-systems
 returns-in_err-systems g c =
@@ -24,7 +24,7 @@ returns-in-Ok g c =
     let left = g.I.Read.remaining c.read_systems.new.input in
     with_table subject rows c.whole_inputs-others.result (input_count (whole_files subject (codes "FILE") rows)) (c.whole_inputs-others.ensures.counted ∙ ap input_count c.whole_files-files.ensures)
     (g.I.Read.remaining c.args.input.now) left c.read_systems.ensures.left _ c.in-Ok.filesystems c.answer_files.result (rw c.in-Ok.is at c.in_ok-systems.ensures.systems)
-    (subst (λ (files : List (List ℕ × Option (List ℕ))). AnswersFiles files left c.in-Ok.filesystems c.answer_files.result) c.whole_files-files.ensures c.answer_files.ensures)
+    (subst (λ (files : List (List ℕ × Option (List ℕ))). AnswersFiles (g.Q.WholeQuestion.Answers c.args.question.now) files left c.in-Ok.filesystems c.answer_files.result) c.whole_files-files.ensures c.answer_files.ensures)
 
 pub returns-in-Err : goal.returns-in-Err
 returns-in-Err g c =

@@ -4,7 +4,7 @@ use Rattle.std.proofs.lemmas.Result.{err_from_is_err_and}
 use Rattle.cli_texts.specs.TableFiles.{named}
 use Rattle.cli_texts.specs.WholeFiles.{file_list, whole_list, whole_texts}
 use Rattle.cli_texts.proofs.FilesInTurn.{lent}
-use Rattle.cli_texts.proofs.lists_command.answer_files.Goals as goal
+use Rattle.cli_texts.proofs.whole_question.answer_files.Goals as goal
 
 pub returns-in_err-texts : goal.returns-in_err-texts
 returns-in_err-texts g c =
@@ -17,5 +17,5 @@ returns g c =
     record {
       step = Ok sources.result;
       is = lent (map named (file_list c.args.files)) (g.I.Read.remaining c.args.input.now) (whole_texts c.in_ok-texts.texts) (whole_list sources.result) sources.ensures.paths sources.ensures.texts c.in_ok-texts.ensures.texts;
-      next = c.answer_host.ensures;
+      next = c.answer.ensures;
     }
