@@ -1,23 +1,19 @@
 //! The command `compare`: what changes from one exports text to another, of every directory and for every client.
 
-ghost use Rattle.std.specs.Prelude.{◌≡◌, Ok, codes, map};
+ghost use Rattle.std.specs.Prelude.{◌≡◌, Ok};
 ghost use Rattle.desk_text.specs.Lines.{IsReadable};
 ghost use Rattle.desk_findings.specs.CheckFaults.{AreReadable};
 ghost use Rattle.desk_findings.specs.CheckText.{tables_of};
-ghost use Rattle.cli_words.specs.Words.{is_set, rows_in};
-ghost use Rattle.cli_texts.specs.CompareCommand.{AnswersCompare, AnswersFiles, AnswersSubject, AnswersTexts, PrintsChanges};
-ghost use Rattle.cli_texts.specs.TableFiles.{named};
-ghost use Rattle.cli_texts.specs.TwoFiles.{file_list};
+ghost use Rattle.cli_words.specs.Words.{rows_in};
+ghost use Rattle.cli_texts.specs.CompareCommand.{AnswersCompare, AnswersTexts, PrintsChanges};
 ghost use Rattle.cli_texts.specs.FaultyTexts.{AnswersOrFault};
 ghost use Rattle.cli_texts.specs.WholeTables.{GivesOrFault, policy_of};
 
 use crate::View;
 use crate::faulty_texts::answer_error;
-use crate::subject::{Places, Subject, subject_of, word_of};
-use crate::systems::read_systems;
-use crate::table_files::TextFile;
-use crate::two_files::{TwoFiles, TwoSources, read_two_texts, two_inputs, two_sources};
-use crate::whole_files::whole_files;
+use crate::subject::{Places, subject_of};
+use crate::two_files::TwoSources;
+use crate::two_question::{TwoNames, TwoQuestion, answer_two};
 use crate::whole_tables::view_of;
 use clap::ArgMatches;
 use cli_output::failure::Failure;
@@ -40,6 +36,12 @@ const PLACES: Places = Places {
     beside: "OLD or MOUNT",
 };
 
+/// The two texts.
+const NAMES: TwoNames = TwoNames {
+    first: "OLD",
+    second: "NEW",
+};
+
 /// Answers `compare OLD NEW MOUNT...`, or `compare --site DIR NEW`, with its options. MOUNT is parsed before any file is read.
 pub fn run_compare<I: BufRead>(
     rt: &HostRuntime,
@@ -49,65 +51,30 @@ pub fn run_compare<I: BufRead>(
     ensures { AnswersCompare (rows_in words.now) (I.remaining input.old) result }
 {
     let subject = subject_of(rt.alloc(), words, PLACES)?;
-    answer_subject(rt, words, &subject, input)
-}
-
-/// Answers by what is asked of.
-fn answer_subject<'w, I: BufRead>(
-    rt: &HostRuntime,
-    words: &ArgMatches<'w>,
-    subject: &Subject<'w>,
-    input: &mut I,
-) -> Result<Printed, Failure>
-    ensures { AnswersSubject (rows_in words.now) (I.remaining input.old) subject.now result }
-{
-    let after = word_of(words, subject, "OLD", "NEW")?;
-    let files = TwoFiles {
-        whole: whole_files(words, subject, "OLD"),
-        second: TextFile {
-            argument: "NEW",
-            path: Some(after),
-            optional: false,
-        },
+    let question = CompareQuestion {
+        all: is_set(words, "all"),
     };
-    let others = two_inputs(files);
-    let systems = read_systems(rt, words, subject, others, input)?;
-    match systems {
-        Ok(filesystems) => answer_files(rt, words, &filesystems, files, input),
-        Err(printed) => Ok(printed),
-    }
+    answer_two(rt, words, &subject, NAMES, &question, input)
 }
 
-/// Answers by these file systems and files.
-fn answer_files<I: BufRead>(
-    rt: &HostRuntime,
-    words: &ArgMatches<'_>,
-    filesystems: &FileSystems,
-    files: TwoFiles<'_>,
-    input: &mut I,
-) -> Result<Printed, Failure>
-    ensures { AnswersFiles (is_set (codes "all") (rows_in words.now)) (map named (file_list files.entry)) (I.remaining input.old) filesystems.now result }
-{
-    let texts = read_two_texts(rt, files, input)?;
-    let sources = two_sources(files, &texts);
-    answer_texts(rt.alloc(), is_set(words, "all"), filesystems, sources)
-}
-
-/// Answers by the texts of the files.
-fn answer_texts(
-    alloc: Global,
+/// What changes, with each change of a file system if that is asked.
+struct CompareQuestion {
     all: bool,
-    filesystems: &FileSystems,
-    sources: TwoSources<'_>,
-) -> Result<Printed, Failure>
-    requires tables { AreReadable sources.tables }
-    requires first { IsReadable sources.first.text.now }
-    requires second { IsReadable sources.second.text.now }
-    ensures { AnswersTexts all filesystems.now sources.entry result }
-{
-    match read_sources(alloc, sources.tables) {
-        Ok(tables) => compare(alloc, all, filesystems, &tables, sources),
-        Err(error) => answer_error(alloc, sources.whole_first(), filesystems, error),
+}
+
+impl TwoQuestion for CompareQuestion {
+    ghost Answers = { λ question. AnswersTexts question.all };
+
+    fn answer(
+        &self,
+        alloc: Global,
+        filesystems: &FileSystems,
+        sources: TwoSources<'_>,
+    ) -> Result<Printed, Failure> {
+        match read_sources(alloc, sources.tables) {
+            Ok(tables) => compare(alloc, self.all, filesystems, &tables, sources),
+            Err(error) => answer_error(alloc, sources.whole_first(), filesystems, error),
+        }
     }
 }
 

@@ -1,11 +1,10 @@
 -- The files are read first.
-use Rattle.std.proofs.Common.{Bool, Err, Ok, map, refl, subst}
+use Rattle.std.proofs.Common.{Err, Ok, map, refl}
 use Rattle.std.proofs.lemmas.Result.{err_from_is_err_and}
-use Rattle.cli_texts.specs.TestCommand.{AnswersTexts}
 use Rattle.cli_texts.specs.TableFiles.{named}
 use Rattle.cli_texts.specs.TwoFiles.{file_list, two_list, two_texts}
 use Rattle.cli_texts.proofs.FilesInTurn.{lent}
-use Rattle.cli_texts.proofs.test_command.answer_files.Goals as goal
+use Rattle.cli_texts.proofs.two_question.answer_files.Goals as goal
 
 pub returns-in_err-texts : goal.returns-in_err-texts
 returns-in_err-texts g c =
@@ -18,5 +17,5 @@ returns g c =
     record {
       step = Ok sources.result;
       is = lent (map named (file_list c.args.files)) (g.I.Read.remaining c.args.input.now) (two_texts c.in_ok-texts.texts) (two_list sources.result) sources.ensures.paths sources.ensures.texts c.in_ok-texts.ensures.texts;
-      next = subst (λ (flag : Bool). AnswersTexts flag c.args.filesystems.now sources.result c.answer_texts.result) c.is_set.ensures c.answer_texts.ensures;
+      next = c.answer.ensures;
     }
