@@ -1,6 +1,6 @@
 //! What is asked of an exports text with its tables: the file systems are read first, and then the files.
 
-ghost use Rattle.std.specs.Prelude.{List, Result, codes, map};
+ghost use Rattle.std.specs.Prelude.{List, Result, map};
 ghost use Rattle.desk_text.specs.Lines.{IsReadable};
 ghost use Rattle.desk_tables.specs.declared.filesystems.Mount.{Mount};
 ghost use Rattle.desk_findings.specs.CheckFaults.{AreReadable};
