@@ -61,6 +61,7 @@ fn answer_subject<'w, I: BufRead>(
 }
 
 /// Who may mount a path, by the rule of mountd(8) if that is asked.
+#[derive(Clone, Copy)]
 struct ClientsQuestion<'a> {
     path: &'a Path,
     mountd: bool,

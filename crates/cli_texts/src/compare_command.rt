@@ -58,6 +58,7 @@ pub fn run_compare<I: BufRead>(
 }
 
 /// What changes, with each change of a file system if that is asked.
+#[derive(Clone, Copy)]
 struct CompareQuestion {
     all: bool,
 }

@@ -64,6 +64,7 @@ fn answer_subject<'w, I: BufRead>(
 }
 
 /// What a client may mount.
+#[derive(Clone, Copy)]
 struct ListsQuestion {
     address: Addr,
 }

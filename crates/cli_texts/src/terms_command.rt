@@ -41,6 +41,7 @@ pub fn run_terms<I: BufRead>(
 }
 
 /// All exports with their terms.
+#[derive(Clone, Copy)]
 struct TermsQuestion;
 
 impl WholeQuestion for TermsQuestion {

@@ -54,6 +54,7 @@ pub fn run_test<I: BufRead>(
 }
 
 /// Which expectations are broken, as a JSON list if that is asked.
+#[derive(Clone, Copy)]
 struct TestQuestion {
     json: bool,
 }

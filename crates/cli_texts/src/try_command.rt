@@ -81,6 +81,7 @@ fn answer_subject<'w, I: BufRead>(
 }
 
 /// A request as it is asked, with the word of a credential, if it is given.
+#[derive(Clone, Copy)]
 struct TryQuestion<'a> {
     word: Option<&'a str>,
     asking: Asking,
