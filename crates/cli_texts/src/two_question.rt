@@ -58,7 +58,7 @@ pub fn answer_two<'w, Q: TwoQuestion, I: BufRead>(
     question: &Q,
     input: &mut I,
 ) -> Result<Printed, Failure>
-    ensures { AnswersTwo (Q.Answers question.now) names.entry.first.now names.entry.second.now (rows_in words.now) (I.remaining input.old) subject.now result }
+    ensures { AnswersTwo (Q.Answers question.now) names.first.now names.second.now (rows_in words.now) (I.remaining input.old) subject.now result }
 {
     let word = word_of(words, subject, names.first, names.second)?;
     let files = TwoFiles {
