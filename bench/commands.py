@@ -1,9 +1,10 @@
 """Commands of the program and their answers, worked by hand, for the scripts that try a built program."""
 
+import hashlib
 import sys
 from pathlib import Path
 
-from databases import NAMES, SITE, TABLES, put_words
+from databases import KEYS, NAMES, SITE, TABLES, put_words
 from messages import CONTRADICTING, LOCALHOST, TAKING
 
 sys.path.append(str(Path(__file__).resolve().parent.parent / "crates/desk_cases"))
@@ -49,6 +50,32 @@ CLASH = {
     "rule": 26,
     "text": "line 1 has other terms for 0.0.0.0",
     "word": "/a",
+}
+# What `--json` prints of a line for 10.0.0.5 alone, of what another text changes there, and of a refusal.
+GRANTED = {"flavours": ["sys"], "fs": "/a", "line": 1, "map": "root", "mapped": "65534:65533", "ro": False, "verdict": "granted"}
+DENIED = {"fs": "/a", "reason": 2, "verdict": "denied"}
+REASONS = ["line 1 name 10.0.0.5: decides, lists /a", "lines of /a that match 10.0.0.5: 1 of 1"]
+CLIENT = {"first": "10.0.0.5", "last": "10.0.0.5"}
+WHOM = [
+    {"first": "0.0.0.0", "last": "10.0.0.4", **DENIED},
+    {**CLIENT, **GRANTED},
+    {"first": "10.0.0.6", "last": "255.255.255.255", **DENIED},
+]
+CHANGE = {**CLIENT, "before": DENIED, "after": GRANTED, "dir": "/a", "matters": True, "others": False}
+NO_REVISION = {"error": "NoRevision", "number": 111}
+# The same of the change in /u2 that CHANGED tells.
+LOST = {
+    "changes": [
+        {
+            "after": {"fs": "/u2", "line": 3, "reason": 3, "verdict": "denied"},
+            "before": {**GRANTED, "fs": "/u2", "line": 2},
+            "dir": "/u2",
+            "first": "131.104.48.22",
+            "last": "131.104.48.22",
+            "matters": True,
+            "others": True,
+        }
+    ]
 }
 STORED = revision("hosts", "site", LOCALHOST)
 GUARDED = revision("filesystems", "site", GUARDING)
@@ -107,6 +134,10 @@ def granted_as(credential, root):
     return written_as(credential, f"granted line 1 rw sec=sys root={root}\n")
 
 
+def as_json(told):
+    return f"{printed_json(told)}\n"
+
+
 def put(name, caller, key, text, out, status=1, database="first", stored=(), taken=()):
     """An edit with base 1."""
     words = put_words("DB", name, "TEXT", 1, caller, key)
@@ -117,6 +148,14 @@ def put(name, caller, key, text, out, status=1, database="first", stored=(), tak
 def put_guarded(caller, text, out, database, stored=(), taken=(), status=0):
     """An edit of a guarded file, with base 1."""
     return put("exports:/u", caller, None, text, out, status, database, stored, taken)
+
+
+def put_proposed(caller, text, out, database, stored=(), taken=(), status=0):
+    """An edit of a guarded file by the digest of a text, which is to be its proposal, with base 1."""
+    digest = hashlib.sha256(text.encode()).hexdigest()
+    words = ["put", "--proposal", digest, "--base", "1", "--caller", caller, "--key", KEYS[caller], "DB", "exports:/u"]
+    title = f"`put --proposal` by {caller} into the database {database!r}, which is answered {out.split(chr(10))[0]!r}"
+    return Command(words, out, status, database=database, stored=stored, taken=taken, title=title)
 
 
 def foreseen(name, text, out, status, *options, database="first"):
@@ -344,6 +383,9 @@ COMMANDS = {
             "/a -maproot=1:2 10.0.0.5\n",
             "granted line 1 rw sec=sys root=1:2 as 1:2\n",
         ),
+        tried(["try", "-", "10.0.0.5", "/a", "/a", "--json"], "/a 10.0.0.5\n", as_json(GRANTED)),
+        tried(["try", "-", "10.0.0.5", "/a", "/a", "--json", "--why"], "/a 10.0.0.5\n", as_json({**GRANTED, "why": REASONS})),
+        tried(["try", "-", "10.0.0.5", "/a", "/a", "--json"], "/a\n/a -ro\n", as_json([CLASH]), 3),
         tried(["try", "-", "10.0.0.5", "/b", "/a"], "/a\n", "denied 1 NoFileSystem\n", 1),
         tried(["try", "-", "10.0.0.5", "/a", "/a"], "/a 10.0.0.6\n", "denied 2 NoLine /a\n", 1),
         Command(
@@ -428,23 +470,45 @@ COMMANDS = {
             "granted line 2 rw sec=sys root=1:1:5 as 1:1:5\n",
         ),
         asked_of("approved", ["ask", "DB", "192.0.2.1", "/u"], f"granted line 1 {STANDARD.replace('rw', 'ro')}\n"),
+        asked_of("first", ["ask", "DB", "192.0.2.1", "/a", "--json"], as_json(DENIED), 1),
+        asked_of("first", ["ask", "DB", "131.104.48.20", "/u2/x", "--json", "--why"], None, 1),
     ],
-    "show": [asked_of(name, ["show", "DB", "131.104.48.20"], SHOWN) for name in ("first", "old")],
+    "show": [
+        *(asked_of(name, ["show", "DB", "131.104.48.20"], SHOWN) for name in ("first", "old")),
+        asked_of("first", ["show", "DB", "131.104.48.20", "--json"], None),
+    ],
     "exports": [
         *(asked_of(name, ["exports", "DB"], EXPORTS) for name in ("first", "old")),
         asked_of("first", ["exports", "DB", "--terms"], TERMS),
+        asked_of("first", ["exports", "DB", "--json"], None),
     ],
     "log": [
         asked_of("later", ["log", "DB", "hosts"], "rev 1 site\nrev 2 site\n"),
         asked_of("old", ["log", "DB", "exports:/u"], "rev 1 site, profile 1\n"),
         asked_of("first", ["log", "DB", "exports:/u3"], NO_PROPOSAL, 1),
         asked_of("approved", ["log", "DB", "exports:/u"], "rev 1 site\nrev 2 ulf, approved by site\n"),
+        asked_of(
+            "approved",
+            ["log", "DB", "exports:/u", "--json"],
+            as_json(
+                {
+                    "name": "exports:/u",
+                    "revisions": [{"author": "site", "rev": 1}, {"approver": "site", "author": "ulf", "rev": 2}],
+                }
+            ),
+        ),
+        asked_of("first", ["log", "DB", "exports:/u3", "--json"], as_json(NO_REVISION), 1),
     ],
     "cat": [
         asked_of("first", ["cat", "DB", "exports:/u2"], U2),
         asked_of("later", ["cat", "DB", "hosts", "--rev", "2"], LOCALHOST),
         asked_of("old", ["cat", "DB", "exports:/private"], "/private -sec=krb5i\n"),
         asked_of("approved", ["cat", "DB", "exports:/u"], PROPOSED),
+        asked_of(
+            "approved",
+            ["cat", "DB", "exports:/u", "--json"],
+            as_json({"approver": "site", "author": "ulf", "body": PROPOSED, "name": "exports:/u", "rev": 2}),
+        ),
     ],
     "put": [
         put("hosts", "site", "abc", LOCALHOST, "accepted rev 2\n", 0, stored=[STORED]),
@@ -483,6 +547,10 @@ COMMANDS = {
         put_guarded("site", "/u -rw\n", "fault exports:/u line 1 rule 5 UnknownOption\n", "proposed", status=3),
         put_guarded("site", PROPOSED, "already rev 2\n", "approved"),
         put_guarded("ulf", "/u\n", "refused 7 Stale 2\n", "approved", status=1),
+        put_proposed("site", PROPOSED, "accepted rev 2\n", "proposed", APPROVED, [PENDING]),
+        put_proposed("ulf", PROPOSED, "already proposed rev 2\n", "proposed"),
+        put_proposed("site", "/u\n", "refused 112 OtherProposal\n", "proposed", status=1),
+        put_proposed("site", PROPOSED, NO_PROPOSAL, "guarded", status=1),
         put("hosts", "site", "abc", "#" * 65536 + "\n", "refused 5 TooLarge\n"),
     ],
     "clients": [
@@ -510,6 +578,7 @@ COMMANDS = {
             "fault line 2 rule 26 Contradiction line 1 address 192.168.0.0\n",
             3,
         ),
+        tried(["clients", "-", "/a", "/a", "--json"], "/a 10.0.0.5\n", as_json({"dir": "/a", "ranges": WHOM})),
     ],
     "lists": [
         tried(
@@ -575,6 +644,9 @@ COMMANDS = {
             text="/usr /usr/local -ro 10.0.0.5\n/usr 10.0.0.6\n/home -alldirs\n",
             title="`compare` with a text that has a fault",
         ),
+        Command(
+            ["compare", "TEXT", "-", "/a", "--json"], as_json({"changes": [CHANGE]}), 1, given="/a 10.0.0.5\n", text="# nothing\n"
+        ),
     ],
     "test": [
         Command(
@@ -611,7 +683,10 @@ COMMANDS = {
             title="`test` with expectations that have a fault",
         ),
     ],
-    "who": [asked_of(name, ["who", "DB", "/u2/x"], WHO) for name in ("first", "old")],
+    "who": [
+        *(asked_of(name, ["who", "DB", "/u2/x"], WHO) for name in ("first", "old")),
+        asked_of("first", ["who", "DB", "/u2/x", "--json"], None),
+    ],
     "impact": [
         foreseen("exports:/u2", f"{U2}/u2 -quiet 131.104.48.22\n", CHANGED, 1),
         foreseen("exports:/u2", f"{U2}/u2 -quiet 131.104.48.22\n", CHANGED, 1, database="old"),
@@ -622,6 +697,10 @@ COMMANDS = {
         foreseen("hosts", CONTRADICTING, "fault exports:/usr line 2 rule 26 Contradiction line 1 address 131.104.48.16\n", 3),
         asked_of("proposed", ["impact", "DB", "exports:/u", "--proposal"], FORESEEN, 1),
         asked_of("guarded", ["impact", "DB", "exports:/u", "--proposal"], NO_PROPOSAL, 1),
+        asked_of("guarded", ["impact", "DB", "exports:/u", "--proposal", "--json"], as_json(NO_REVISION), 1),
+        foreseen("exports:/u2", U2, as_json({"changes": []}), 0, "--json"),
+        foreseen("exports:/u2", f"{U2}/u2 -quiet 131.104.48.22\n", as_json(LOST), 1, "--json"),
+        foreseen("exports:/u3", "/u3\n", as_json({"error": "UnknownFile", "number": 3}), 1, "--json"),
     ],
     "audit": [
         audited(["audit", "DB", "-"], PROMISED, "2 expectations, 0 broken\n", 0),
@@ -637,12 +716,18 @@ COMMANDS = {
         asked_of("proposed", ["proposal", "DB", "exports:/u"], PROPOSED),
         asked_of("guarded", ["proposal", "DB", "exports:/u"], NO_PROPOSAL, 1),
         asked_of("old", ["proposal", "DB", "exports:/u"], NO_PROPOSAL, 1),
+        asked_of(
+            "proposed",
+            ["proposal", "DB", "exports:/u", "--json"],
+            as_json({"author": "ulf", "base": 1, "body": PROPOSED, "name": "exports:/u"}),
+        ),
     ],
     "files": [
         asked_of("first", ["files", "DB"], "".join(files_with({}))),
         asked_of("proposed", ["files", "DB"], "".join(files_with(PENDING_FILES))),
         asked_of("approved", ["files", "DB"], "".join(files_with(APPROVED_FILES))),
         asked_of("old", ["files", "DB"], "".join(files_with({}))),
+        asked_of("proposed", ["files", "DB", "--json"], None),
     ],
     "report": [asked_of(name, ["report", "DB"], None) for name in ("first", "old", "proposed")],
     "write": [

@@ -18,7 +18,8 @@ _exportdesk()
         no:--as | no:--base | no:--caller | no:--connections | \
             no:--group | no:--hosts | no:--ignore | no:--key | \
             no:--key-file | no:--mounts | no:--netgroup | no:--networks | \
-            no:--passwd | no:--port | no:--rev | no:--timeout) is_value=yes ;;
+            no:--passwd | no:--port | no:--proposal | no:--rev | \
+            no:--timeout) is_value=yes ;;
         yes:=) ;;
         yes:*) is_value=no ;;
         no::) count=$((count - 1)) ;;
@@ -27,20 +28,24 @@ _exportdesk()
         esac
     done
     case $command in
-    try) choices='--hosts --networks --passwd --group --netgroup --mounts --site --as --why --mountd --help' ;;
+    try) choices='--hosts --networks --passwd --group --netgroup --mounts --site --as --why --mountd --json --help' ;;
     check) choices='--hosts --networks --passwd --group --netgroup --mounts --site --brief --strict --json --sarif --opinions --ignore --help' ;;
-    clients) choices='--hosts --networks --passwd --group --netgroup --mounts --site --mountd --help' ;;
+    clients) choices='--hosts --networks --passwd --group --netgroup --mounts --site --mountd --json --help' ;;
     lists) choices='--hosts --networks --passwd --group --netgroup --mounts --site --help' ;;
     terms) choices='--hosts --networks --passwd --group --netgroup --mounts --site --help' ;;
-    compare) choices='--hosts --networks --passwd --group --netgroup --mounts --site --all --help' ;;
-    test) choices='--hosts --networks --passwd --group --netgroup --mounts --site --json --help' ;;
-    ask) choices='--as --why --mountd --help' ;;
-    exports) choices='--terms --help' ;;
-    who) choices='--mountd --help' ;;
-    put) choices='--base --caller --key --key-file --help' ;;
-    impact) choices='--all --proposal --help' ;;
-    audit) choices='--proposal --json --help' ;;
-    cat) choices='--rev --help' ;;
+    compare) choices='--hosts --networks --passwd --group --netgroup --mounts --site --all --json --help' ;;
+    test) choices='--hosts --networks --passwd --group --netgroup --mounts --site --json --sarif --help' ;;
+    ask) choices='--as --why --mountd --json --help' ;;
+    show) choices='--json --help' ;;
+    exports) choices='--terms --json --help' ;;
+    who) choices='--mountd --json --help' ;;
+    put) choices='--proposal --base --caller --key --key-file --help' ;;
+    impact) choices='--all --proposal --json --help' ;;
+    audit) choices='--proposal --json --sarif --help' ;;
+    log) choices='--json --help' ;;
+    cat) choices='--rev --json --help' ;;
+    proposal) choices='--json --help' ;;
+    files) choices='--json --help' ;;
     serve) choices='--port --connections --timeout --help' ;;
     esac
     # A mount point follows `exports:`.
@@ -75,8 +80,8 @@ _exportdesk()
         mapfile -t COMPREPLY < <(compgen -d -- "$word")
         ;;
     ask:--as:* | cat:--rev:* | check:--ignore:* | put:--base:* | \
-        put:--caller:* | put:--key:* | serve:--connections:* | serve:--port:* | \
-        serve:--timeout:* | try:--as:*) ;;
+        put:--caller:* | put:--key:* | put:--proposal:* | serve:--connections:* | \
+        serve:--port:* | serve:--timeout:* | try:--as:*) ;;
     *:-?*) mapfile -t COMPREPLY < <(compgen -W "$choices" -- "$word") ;;
     *)
         case $command:$count in

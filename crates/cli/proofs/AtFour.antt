@@ -14,12 +14,14 @@ use Rattle.desk_policy.specs.declared.parsing.SiteTables.{SiteTables}
 use Rattle.desk_policy.specs.declared.site_fault.SiteFault.{SiteFault}
 use Rattle.desk_split.specs.Splitting.{split_text}
 use Rattle.desk_split.specs.declared.split_fault.SplitFault.{SplitFault}
+use Rattle.desk_core.specs.declared.edit.Refusal.{Refusal}
 use Rattle.desk_core.specs.declared.edit.Refusal.TheVariants as refusal
 use Rattle.desk_store.specs.declared.desk.Done.{Done}
 use Rattle.desk_store.specs.declared.error.CreateError.{CreateError}
 use Rattle.desk_store.specs.declared.error.CreateError.TheVariants as create
 use Rattle.desk_store.specs.declared.error.DeskError.{DeskError}
 use Rattle.desk_store.specs.declared.error.DeskError.TheVariants as error
+use Rattle.desk_service.specs.Approving.{Approval}
 use Rattle.desk_service.specs.Questions as given
 use Rattle.desk_service.specs.Refused.{refused_by}
 use Rattle.desk_service.specs.Sites.{WholeSite}
@@ -32,7 +34,7 @@ use Rattle.cli_output.specs.declared.failure.Failure.{Failure}
 use Rattle.cli_output.specs.declared.failure.TextFault.{TextFault}
 use Rattle.cli_output.specs.declared.printed.Printed.{Printed}
 use Rattle.cli_desk.specs.Desks.{HasNoCopiedDesk, HasNoDesk}
-use Rattle.cli_desk.specs.RefusalLines.{IsRefused, Says}
+use Rattle.cli_desk.specs.RefusalLines.{IsRefused, Says, refusal_status}
 use Rattle.cli_desk.specs.RefusalNotes.{IsRefusedBy}
 use Rattle.cli_words.specs.Commands.{command_found}
 use Rattle.cli_words.specs.LineWords.{words_of}
@@ -46,7 +48,7 @@ use Rattle.cli_verdict.specs.Ranges.{PrintsRanges}
 use Rattle.cli_verdict.specs.TryText.{MountQuestion, PrintsTried}
 use Rattle.cli_verdict.specs.declared.asking.Asking.{Asking}
 use Rattle.cli_verdict.specs.declared.try_text.Tried.{Tried}
-use Rattle.cli_expectations.specs.Tested.{Expected, PrintsTested}
+use Rattle.cli_expectations.specs.TestedPolicy.{Expected, PrintsTested}
 use Rattle.cli_texts.specs.CheckCommand as check
 use Rattle.cli_texts.specs.ClientsCommand as clients
 use Rattle.cli_texts.specs.CompareCommand as compare
@@ -68,7 +70,7 @@ use Rattle.desk_findings.specs.declared.check_faults.Source.{Source}
 use Rattle.desk_findings.specs.declared.check_text.WholeSources.{WholeSources}
 use Rattle.cli_questions.specs.AuditCommand as audit
 use Rattle.cli_questions.specs.QuestionCommands as question
-use Rattle.cli_questions.specs.Questions.{AnswersQuestion, Asked, Breaches, Changes, Mounts, Plain, Printer, PrintsAnswer, PrintsSite, PrintsWhy, Ranges, Terms, mount_in}
+use Rattle.cli_questions.specs.Questions.{AnswersQuestion, Asked, Breaches, Changes, Mounts, Plain, Printer, PrintsBy, PrintsLines, PrintsObject, PrintsSite, PrintsWhy, Ranges, Terms, mount_in}
 use Rattle.cli_questions.specs.ReportCommand as report
 use Rattle.cli_edits.specs.InitCommand as init
 use Rattle.cli_edits.specs.PutCommand as put
@@ -155,10 +157,10 @@ word : {X : Type 0} (name : List ℕ) (Answers : X → Result Printed Failure �
 word name Answers None result is each = err_and _ result is
 word name Answers (Some value) result is each = each value is
 
-or_fault : (PrintsAnswer : Printed → Type 0) (sources : WholeSources) (table : List Mount) (result : Result Printed Failure) → AnswersOrFault PrintsAnswer sources table result → ((printed : Printed) → PrintsAnswer printed → Fine (Ok printed)) → Fine result
-or_fault PrintsAnswer sources table (Ok printed) (inl is) each = each printed is
-or_fault PrintsAnswer sources table (Ok printed) (inr is) each = prints _ 3 printed not_3 is.prints.prints
-or_fault PrintsAnswer sources table (Err failure) is each = tt
+or_fault : (json : Bool) (PrintsAnswer : Printed → Type 0) (sources : WholeSources) (table : List Mount) (result : Result Printed Failure) → AnswersOrFault json PrintsAnswer sources table result → ((printed : Printed) → PrintsAnswer printed → Fine (Ok printed)) → Fine result
+or_fault json PrintsAnswer sources table (Ok printed) (inl is) each = each printed is
+or_fault json PrintsAnswer sources table (Ok printed) (inr is) each = has_status 3 printed not_3 is.prints.status_is
+or_fault json PrintsAnswer sources table (Err failure) is each = tt
 
 either : (P : Printed → Type 0) (Q : Failure → Type 0) (result : Result Printed Failure) → MatchResult result P Q → ((printed : Printed) → P printed → Fine (Ok printed)) → Fine result
 either P Q (Ok printed) is each = each printed is
@@ -169,9 +171,9 @@ either P Q (Err failure) is each = tt
 tried : (answer : Tried) (printed : Printed) → PrintsTried answer printed → Fine (Ok printed)
 tried answer printed is = prints _ (if answer.granted then 0 else 1) printed (none_of answer.granted 0 1 not_0 not_1) is.prints
 
-ranges : (mountd : Bool) (content : Content) (path : List (List ℕ)) (printed : Printed) → PrintsRanges mountd content path printed → Fine (Ok printed)
-ranges true content path printed is = prints _ 0 printed not_0 is.prints
-ranges false content path printed is = prints _ 0 printed not_0 is.prints
+ranges : (mountd json : Bool) (content : Content) (path : List (List ℕ)) (printed : Printed) → PrintsRanges mountd json content path printed → Fine (Ok printed)
+ranges true json content path printed is = prints _ 0 printed not_0 is.prints
+ranges false json content path printed is = prints _ 0 printed not_0 is.prints
 
 tested : (tables : SiteTables) (content : Content) (expected : Expected) (printed : Printed) → PrintsTested tables content expected printed → Fine (Ok printed)
 tested tables content expected printed (inl is) = prints _ _ printed (none_of _ 0 1 not_0 not_1) is.prints.prints
@@ -180,29 +182,29 @@ tested tables content expected printed (inr is) = prints _ 3 printed not_3 is.pr
 -- ---- commands on texts
 
 -- the fault of a folder's file systems
-listed_fault : (source : Source) (read : Result (List Mount) TableFault) (printed : Printed) → systems.AnswersText source read (Err printed) → Fine (Ok printed)
-listed_fault source (Ok table) printed is = absurd is
-listed_fault source (Err fault) printed is = prints _ 3 printed not_3 is.prints
+listed_fault : (json : Bool) (source : Source) (read : Result (List Mount) TableFault) (printed : Printed) → systems.AnswersText json source read (Err printed) → Fine (Ok printed)
+listed_fault json source (Ok table) printed is = absurd is
+listed_fault json source (Err fault) printed is = has_status 3 printed not_3 is.status_is
 
-systems_fault : (subject : Subject) (rows : List Row) (others : ℕ) (known : Option (List ℕ)) (printed : Printed) → systems.ReadsSystems subject rows others known (Ok (Err printed)) → Fine (Ok printed)
-systems_fault (File file) rows others known printed is = absurd is
-systems_fault (Site folder) rows others known printed is = listed_fault is.source (read_filesystems is.source.text.now) printed is.answers
+systems_fault : (json : Bool) (subject : Subject) (rows : List Row) (others : ℕ) (known : Option (List ℕ)) (printed : Printed) → systems.ReadsSystems json subject rows others known (Ok (Err printed)) → Fine (Ok printed)
+systems_fault json (File file) rows others known printed is = absurd is
+systems_fault json (Site folder) rows others known printed is = listed_fault json is.source (read_filesystems is.source.text.now) printed is.answers
 
-systems_by : (subject : Subject) (rows : List Row) (others : ℕ) (known : Option (List ℕ)) (Next : List Mount → Result Printed Failure → Type 0) (step : Result (Result (List Mount) Printed) Failure) (result : Result Printed Failure)
-    → systems.ReadsSystems subject rows others known step → Continues step (systems.ContinuesWith Next) result → ((table : List Mount) → Next table result → Fine result) → Fine result
-systems_by subject rows others known Next (Ok (Ok table)) result reads is each = each table is
-systems_by subject rows others known Next (Ok (Err printed)) result reads is each = subst Fine (sym is) (systems_fault subject rows others known printed reads)
-systems_by subject rows others known Next (Err failure) result reads is each = fails result failure is
+systems_by : (json : Bool) (subject : Subject) (rows : List Row) (others : ℕ) (known : Option (List ℕ)) (Next : List Mount → Result Printed Failure → Type 0) (step : Result (Result (List Mount) Printed) Failure) (result : Result Printed Failure)
+    → systems.ReadsSystems json subject rows others known step → Continues step (systems.ContinuesWith Next) result → ((table : List Mount) → Next table result → Fine result) → Fine result
+systems_by json subject rows others known Next (Ok (Ok table)) result reads is each = each table is
+systems_by json subject rows others known Next (Ok (Err printed)) result reads is each = subst Fine (sym is) (systems_fault json subject rows others known printed reads)
+systems_by json subject rows others known Next (Err failure) result reads is each = fails result failure is
 
-with_systems : (subject : Subject) (rows : List Row) (others : ℕ) (known : Option (List ℕ)) (Next : Option (List ℕ) → List Mount → Result Printed Failure → Type 0) (result : Result Printed Failure)
-    → systems.AfterSystems subject rows others known Next result → ((left : Option (List ℕ)) (table : List Mount) → Next left table result → Fine result) → Fine result
-with_systems subject rows others known Next result is each = systems_by subject rows others known (Next is.left) is.after.step result is.after.is is.after.next (each is.left)
+with_systems : (json : Bool) (subject : Subject) (rows : List Row) (others : ℕ) (known : Option (List ℕ)) (Next : Option (List ℕ) → List Mount → Result Printed Failure → Type 0) (result : Result Printed Failure)
+    → systems.AfterSystems json subject rows others known Next result → ((left : Option (List ℕ)) (table : List Mount) → Next left table result → Fine result) → Fine result
+with_systems json subject rows others known Next result is each = systems_by json subject rows others known (Next is.left) is.after.step result is.after.is is.after.next (each is.left)
 
 tries : (asking : Result Asking Failure) (rows : List Row) (known : Option (List ℕ)) (result : Result Printed Failure) → try.AnswersTryIf asking rows known result → Fine result
 tries (Err failure) rows known result is = fails result failure is
 tries (Ok asking) rows known result is =
-    after result is (λ subject is. after result is (λ request is. with_systems subject rows _ known _ result is (λ left table is. after result is (λ sources is. after result is (λ own is.
-    or_fault _ _ _ result is (λ printed is. tried is.tried printed is.prints))))))
+    after result is (λ subject is. after result is (λ request is. with_systems _ subject rows _ known _ result is (λ left table is. after result is (λ sources is. after result is (λ own is.
+    or_fault _ _ _ _ result is (λ printed is. tried is.tried printed is.prints))))))
 
 split_prints : (sources : SplitSources) (answer : Result (List ℕ) SplitFault) (printed : Printed) → split.PrintsSplit sources answer printed → Fine (Ok printed)
 split_prints sources (Ok body) printed is = prints _ 0 printed not_0 is.prints
@@ -217,7 +219,7 @@ found : (IsFound : Gathered → Type 0) (form : FindingsForm) (ignored : Option 
 found IsFound form ignored result is = either _ _ result is (λ printed is. let shown = is.1.1 in prints _ _ printed (none_of shown.checked.passes 0 3 not_0 not_3) shown.prints.prints)
 
 checks_subject : (subject : Subject) (rows : List Row) (ignored known : Option (List ℕ)) (result : Result Printed Failure) → check.AnswersSubject rows ignored known subject result → Fine result
-checks_subject (File file) rows ignored known result is = with_systems (File file) rows _ known _ result is (λ left table is. after result is (λ sources is. found _ _ _ result is))
+checks_subject (File file) rows ignored known result is = with_systems _ (File file) rows _ known _ result is (λ left table is. after result is (λ sources is. found _ _ _ result is))
 checks_subject (Site folder) rows ignored known result is =
     after result is (λ custodians is. after result is.after (λ both is. after result is.answers (λ sources is. found _ _ _ result is.answers)))
 
@@ -227,69 +229,85 @@ checks None rows known result is = after result is (λ ignored is. after result 
 
 lists_clients : (rows : List Row) (known : Option (List ℕ)) (result : Result Printed Failure) → clients.AnswersClients rows known result → Fine result
 lists_clients rows known result is =
-    after result is (λ subject is. after result is (λ path is. with_systems subject rows _ known _ result is (λ left table is. after result is (λ sources is.
-    or_fault _ _ _ result is (λ printed is. ranges _ is.policy path printed is.prints)))))
+    after result is (λ subject is. after result is (λ path is. with_systems _ subject rows _ known _ result is (λ left table is. after result is (λ sources is.
+    or_fault _ _ _ _ result is (λ printed is. ranges _ _ is.policy path printed is.prints)))))
 
 lists_listing : (rows : List Row) (known : Option (List ℕ)) (result : Result Printed Failure) → lists.AnswersLists rows known result → Fine result
 lists_listing rows known result is =
-    after result is (λ subject is. after result is (λ address is. with_systems subject rows _ known _ result is (λ left table is. after result is (λ sources is.
-    or_fault _ _ _ result is (λ printed is. prints _ 0 printed not_0 is.prints.prints)))))
+    after result is (λ subject is. after result is (λ address is. with_systems _ subject rows _ known _ result is (λ left table is. after result is (λ sources is.
+    or_fault _ _ _ _ result is (λ printed is. prints _ 0 printed not_0 is.prints.prints)))))
 
 lists_terms : (rows : List Row) (known : Option (List ℕ)) (result : Result Printed Failure) → terms.AnswersTerms rows known result → Fine result
 lists_terms rows known result is =
-    after result is (λ subject is. with_systems subject rows _ known _ result is (λ left table is. after result is (λ sources is.
-    or_fault _ _ _ result is (λ printed is. prints _ 0 printed not_0 is.prints.prints))))
+    after result is (λ subject is. with_systems _ subject rows _ known _ result is (λ left table is. after result is (λ sources is.
+    or_fault _ _ _ _ result is (λ printed is. prints _ 0 printed not_0 is.prints.prints))))
 
-compared : (before : Content) (read : Result Content SiteFault) (all : Bool) (printed : Printed) → compare.PrintsChanges before read all printed → Fine (Ok printed)
-compared before read all printed is = prints _ _ printed (none_of _ 0 1 not_0 not_1) is.prints
+told : (json : Bool) (before after : Content) (all : Bool) (printed : Printed) → compare.TellsChanges json before after all printed.status (string_bytes printed.text) → Fine (Ok printed)
+told false before after all printed is = has_status _ printed (none_of _ 0 1 not_0 not_1) is.status_is
+told true before after all printed is = has_status _ printed (none_of _ 1 0 not_1 not_0) is.status_is
+
+compared : (before : Content) (read : Result Content SiteFault) (all json : Bool) (printed : Printed) → compare.PrintsChanges before read all json printed → Fine (Ok printed)
+compared before read all json printed is = told json before is.after all printed is.tells
 
 compares : (rows : List Row) (known : Option (List ℕ)) (result : Result Printed Failure) → compare.AnswersCompare rows known result → Fine result
 compares rows known result is =
-    after result is (λ subject is. word _ _ (word_at subject (codes "OLD") (codes "NEW") rows) result is (λ new is. with_systems subject rows _ known _ result is (λ left table is. after result is (λ sources is.
-    or_fault _ _ _ result is (λ printed is. elim is.prints [
-      | inl changes ↦ compared _ _ _ printed changes
-      | inr fault ↦ prints _ 3 printed not_3 fault.prints.prints
+    after result is (λ subject is. word _ _ (word_at subject (codes "OLD") (codes "NEW") rows) result is (λ new is. with_systems _ subject rows _ known _ result is (λ left table is. after result is (λ sources is.
+    or_fault _ _ _ _ result is (λ printed is. elim is.prints [
+      | inl changes ↦ compared _ _ _ _ printed changes
+      | inr fault ↦ has_status 3 printed not_3 fault.prints.status_is
     ])))))
 
 tests_texts : (rows : List Row) (known : Option (List ℕ)) (result : Result Printed Failure) → test.AnswersTest rows known result → Fine result
 tests_texts rows known result is =
-    after result is (λ subject is. word _ _ (word_at subject (codes "FILE") (codes "EXPECTATIONS") rows) result is (λ expectations is. with_systems subject rows _ known _ result is (λ left table is. after result is (λ sources is.
-    or_fault _ _ _ result is (λ printed is. tested is.tables is.policy _ printed is.prints)))))
+    after result is (λ form is. after result is (λ subject is. word _ _ (word_at subject (codes "FILE") (codes "EXPECTATIONS") rows) result is (λ expectations is. with_systems _ subject rows _ known _ result is (λ left table is. after result is (λ sources is.
+    or_fault _ _ _ _ result is (λ printed is. tested is.tables is.policy _ printed is.prints))))))
 
 -- ---- questions on a database
 
-prints_site : (site : WholeSite) (printer : Printer) (printed : Printed) → PrintsSite site printer printed → Fine (Ok printed)
-prints_site site Plain printed is = prints _ 0 printed not_0 is
-prints_site site Terms printed is = prints _ 0 printed not_0 is
-prints_site site (Changes all) printed is = prints _ 0 printed not_0 is
-prints_site site (Breaches expected) printed is = tested site.tables site.content expected printed is
-prints_site site (Mounts question) printed is = tried is.0 printed is.2
-prints_site site (Ranges path mountd) printed is = ranges mountd site.content path printed is
+prints_site : (json : Bool) (site : WholeSite) (printer : Printer) (printed : Printed) → PrintsSite json site printer printed → Fine (Ok printed)
+prints_site json site Plain printed is = prints _ 0 printed not_0 is
+prints_site json site Terms printed is = prints _ 0 printed not_0 is
+prints_site json site (Changes all) printed is = prints _ 0 printed not_0 is
+prints_site json site (Breaches expected) printed is = tested site.tables site.content expected printed is
+prints_site json site (Mounts question) printed is = tried is.0 printed is.2
+prints_site json site (Ranges path mountd) printed is = ranges mountd json site.content path printed is
 
 prints_why : (question : Option MountQuestion) (content : Content) (reasons : List ℕ) (printed : Printed) → PrintsWhy question content reasons printed → Fine (Ok printed)
 prints_why (Some question) content reasons printed is = tried is.0 printed is.2
 prints_why None content reasons printed is = prints _ 0 printed not_0 is
 
-prints_answer : (asked : Asked) (answer : given.Answer) (printed : Printed) → PrintsAnswer asked answer printed → Fine (Ok printed)
-prints_answer asked (given.VerdictIs content verdict) printed is = prints _ _ printed (none_of _ 0 1 not_0 not_1) is
-prints_answer asked (given.WhyIs content reasons) printed is = prints_why (mount_in asked.printer) content reasons printed is
-prints_answer asked (given.ListingIs content listing) printed is = prints _ 0 printed not_0 is
-prints_answer asked (given.ExportsAre content) printed is = prints _ 0 printed not_0 is
-prints_answer asked (given.RangesAre content runs) printed is = prints _ 0 printed not_0 is
-prints_answer asked (given.TextIs stored) printed is = prints _ 0 printed not_0 is
-prints_answer asked (given.RevisionsAre revisions) printed is = prints _ 0 printed not_0 is
-prints_answer asked (given.ProposalIs proposal) printed is = prints _ 0 printed not_0 is
-prints_answer asked given.NoRevision printed is = says refused.NoRevision printed is
-prints_answer asked (given.FilesAre listed) printed is = prints _ 0 printed not_0 is
-prints_answer asked (given.ForeseenIs foreseen) printed is = prints _ _ printed (none_of _ 0 1 not_0 not_1) is.prints
-prints_answer asked (given.SiteIs site) printed is = prints_site site asked.printer printed is
-prints_answer asked (given.RefusedBy refusal) printed is = says (refused.Edit refusal) printed is
+prints_lines : (asked : Asked) (answer : given.Answer) (printed : Printed) → PrintsLines asked answer printed → Fine (Ok printed)
+prints_lines asked (given.VerdictIs content verdict) printed is = prints _ _ printed (none_of _ 0 1 not_0 not_1) is
+prints_lines asked (given.WhyIs content reasons) printed is = prints_why (mount_in asked.printer) content reasons printed is
+prints_lines asked given.NoRevision printed is = says refused.NoRevision printed is
+prints_lines asked (given.ForeseenIs foreseen) printed is = prints _ _ printed (none_of _ 0 1 not_0 not_1) is.prints
+prints_lines asked (given.SiteIs site) printed is = prints_site false site asked.printer printed is
+prints_lines asked (given.RefusedBy refusal) printed is = says (refused.Edit refusal) printed is
+prints_lines asked answer printed is = prints _ 0 printed not_0 is
+
+-- no edit is refused with the status 4
+not_refused_at_4 : (why : Refusal) → refusal_status why ≡ 4 → ⊥
+not_refused_at_4 (refusal.Fault fault) = not_3
+not_refused_at_4 why = not_1
+
+prints_object : (asked : Asked) (answer : given.Answer) (printed : Printed) → PrintsObject asked answer printed → Fine (Ok printed)
+prints_object asked (given.VerdictIs content verdict) printed is = prints _ _ printed (none_of _ 0 1 not_0 not_1) is
+prints_object asked (given.WhyIs content reasons) printed is = prints_why (mount_in asked.printer) content reasons printed is
+prints_object asked given.NoRevision printed is = prints _ 1 printed not_1 is
+prints_object asked (given.ForeseenIs foreseen) printed is = prints _ _ printed (none_of _ 1 0 not_1 not_0) is.prints
+prints_object asked (given.SiteIs site) printed is = prints_site true site asked.printer printed is
+prints_object asked (given.RefusedBy refusal) printed is = prints _ _ printed (not_refused_at_4 refusal) is
+prints_object asked answer printed is = prints _ 0 printed not_0 is
+
+prints_by : (json : Bool) (asked : Asked) (answer : given.Answer) (printed : Printed) → PrintsBy json asked answer printed → Fine (Ok printed)
+prints_by true asked answer printed is = prints_object asked answer printed is
+prints_by false asked answer printed is = prints_lines asked answer printed is
 
 asks : (path : List ℕ) (asked : Asked) (result : Result Printed Failure) → AnswersQuestion path asked result → Fine result
 asks path asked (Ok printed) (inl is) = says refused.Store printed is
 asks path asked (Ok printed) (inr is) = elim is.1 [
   | inl foreign ↦ says refused.Schema printed foreign.0
-  | inr ours ↦ (let answer = ours.1 ours.0.0 ours.0.1 in prints_answer asked answer.0 printed answer.2)
+  | inr ours ↦ (let answer = ours.1 ours.0.0 ours.0.1 in prints_by asked.json asked answer.0 printed answer.2)
 ]
 asks path asked (Err failure) is = tt
 
@@ -301,35 +319,35 @@ asks_if (Ok asking) rows result is =
 
 shows : (rows : List Row) (result : Result Printed Failure) → question.AnswersShow rows result → Fine result
 shows rows result is =
-    word _ _ (first_of (codes "DB") rows) result is (λ db is. word _ _ (first_of (codes "HOST") rows) result is (λ host is. after result is (λ address is. asks db (question.plainly (given.Listing address.number)) result is)))
+    word _ _ (first_of (codes "DB") rows) result is (λ db is. word _ _ (first_of (codes "HOST") rows) result is (λ host is. after result is (λ address is. asks db (question.plainly (given.Listing address.number) (question.asks_json rows)) result is)))
 
 lists_exports : (rows : List Row) (result : Result Printed Failure) → question.AnswersExports rows result → Fine result
-lists_exports rows result is = word _ _ (first_of (codes "DB") rows) result is (λ db is. asks db (question.of_exports _) result is)
+lists_exports rows result is = word _ _ (first_of (codes "DB") rows) result is (λ db is. asks db (question.of_exports _ _) result is)
 
 lists_who : (rows : List Row) (result : Result Printed Failure) → question.AnswersWho rows result → Fine result
 lists_who rows result is =
-    word _ _ (first_of (codes "DB") rows) result is (λ db is. word _ _ (first_of (codes "DIR") rows) result is (λ dir is. after result is (λ path is. asks db (question.of_site (Ranges path (is_set (codes "mountd") rows))) result is)))
+    word _ _ (first_of (codes "DB") rows) result is (λ db is. word _ _ (first_of (codes "DIR") rows) result is (λ dir is. after result is (λ path is. asks db (question.of_site (Ranges path (is_set (codes "mountd") rows)) (question.asks_json rows)) result is)))
 
 asks_file : (what : FileQuestion) (rows : List Row) (result : Result Printed Failure) → question.AnswersOfFile what rows result → Fine result
-asks_file what rows result is = word _ _ (first_of (codes "DB") rows) result is (λ db is. word _ _ (first_of (codes "NAME") rows) result is (λ name is. asks db (question.plainly (given.OfFile name what)) result is))
+asks_file what rows result is = word _ _ (first_of (codes "DB") rows) result is (λ db is. word _ _ (first_of (codes "NAME") rows) result is (λ name is. asks db (question.plainly (given.OfFile name what) (question.asks_json rows)) result is))
 
 prints_file : (rows : List Row) (result : Result Printed Failure) → question.AnswersCat rows result → Fine result
 prints_file rows result is =
-    word _ _ (first_of (codes "DB") rows) result is (λ db is. word _ _ (first_of (codes "NAME") rows) result is (λ name is. after result is (λ rev is. asks db (question.plainly (given.Text name rev)) result is)))
+    word _ _ (first_of (codes "DB") rows) result is (λ db is. word _ _ (first_of (codes "NAME") rows) result is (λ name is. after result is (λ rev is. asks db (question.plainly (given.Text name rev) (question.asks_json rows)) result is)))
 
 lists_files : (rows : List Row) (result : Result Printed Failure) → question.AnswersFiles rows result → Fine result
-lists_files rows result is = word _ _ (first_of (codes "DB") rows) result is (λ db is. asks db (question.plainly given.Files) result is)
+lists_files rows result is = word _ _ (first_of (codes "DB") rows) result is (λ db is. asks db (question.plainly given.Files (question.asks_json rows)) result is)
 
-foresees_by : (db name : List ℕ) (all : Bool) (file : Option (List ℕ)) (proposal : Bool) (known : Option (List ℕ)) (result : Result Printed Failure) → question.AnswersImpactBy db name all file proposal known result → Fine result
-foresees_by db name all (Some file) true known result is = fails result _ is
-foresees_by db name all (Some file) false known result is = after result is (λ text is. asks db (question.changes (given.Foresee name text) all) result is)
-foresees_by db name all None true known result is = asks db (question.changes (given.ForeseeProposal name) all) result is
-foresees_by db name all None false known result is = err_and _ result is
+foresees_by : (db name : List ℕ) (all json : Bool) (file : Option (List ℕ)) (proposal : Bool) (known : Option (List ℕ)) (result : Result Printed Failure) → question.AnswersImpactBy db name all json file proposal known result → Fine result
+foresees_by db name all json (Some file) true known result is = fails result _ is
+foresees_by db name all json (Some file) false known result is = after result is (λ text is. asks db (question.changes (given.Foresee name text) all json) result is)
+foresees_by db name all json None true known result is = asks db (question.changes (given.ForeseeProposal name) all json) result is
+foresees_by db name all json None false known result is = err_and _ result is
 
 foresees : (rows : List Row) (known : Option (List ℕ)) (result : Result Printed Failure) → question.AnswersImpact rows known result → Fine result
 foresees rows known result is =
     word _ _ (first_of (codes "DB") rows) result is (λ db is. word _ _ (first_of (codes "NAME") rows) result is (λ name is.
-    foresees_by db name _ (first_of (codes "FILE") rows) _ known result is))
+    foresees_by db name _ _ (first_of (codes "FILE") rows) _ known result is))
 
 audits_if : (name file : Option (List ℕ)) (proposal : Bool) (words : audit.AuditWords) (known : Option (List ℕ)) (result : Result Printed Failure) → audit.AnswersIf name file proposal words known result → Fine result
 audits_if None None false words known result is = after result is (λ texts is. asks _ (audit.auditing _ _) result is)
@@ -343,8 +361,8 @@ audits_if None None true words known result is = err_and _ result is
 
 audits : (rows : List Row) (known : Option (List ℕ)) (result : Result Printed Failure) → audit.AnswersAudit rows known result → Fine result
 audits rows known result is =
-    word _ _ (first_of (codes "DB") rows) result is (λ db is. word _ _ (first_of (codes "EXPECTATIONS") rows) result is (λ expectations is.
-    audits_if (first_of (codes "NAME") rows) (first_of (codes "FILE") rows) _ (audit.words_in rows db expectations) known result is))
+    after result is (λ form is. word _ _ (first_of (codes "DB") rows) result is (λ db is. word _ _ (first_of (codes "EXPECTATIONS") rows) result is (λ expectations is.
+    audits_if (first_of (codes "NAME") rows) (first_of (codes "FILE") rows) _ (audit.words_in rows form db expectations) known result is)))
 
 reports : (path : List ℕ) (result : Result Printed Failure) → report.AnswersOn path result → Fine result
 reports path (Ok printed) (inl is) = says refused.Store printed is
@@ -416,12 +434,32 @@ puts_key words base None known result is = after result is (λ texts is. puts_te
 
 puts_base : (words : put.PutWords) (base : Option ℕ) (known : Option (List ℕ)) (result : Result Printed Failure) → put.AnswersPutBase words base known result → Fine result
 puts_base words None known result is = err_and _ result is
-puts_base words (Some base) known result is = puts_key words base (put.key_fault words.file words.key words.key_file) known result is
+puts_base words (Some base) known result is = puts_key words base (put.key_fault (Some words.file) words.key words.key_file) known result is
+
+puts_file : (file : List ℕ) (rows : List Row) (known : Option (List ℕ)) (result : Result Printed Failure) → put.AnswersPutFile file rows known result → Fine result
+puts_file file rows known result is =
+    word _ _ (first_of (codes "DB") rows) result is (λ db is. word _ _ (first_of (codes "NAME") rows) result is (λ name is.
+    word _ _ (first_of (codes "base") rows) result is (λ base is. word _ _ (first_of (codes "caller") rows) result is (λ caller is. puts_base (record { db = db; name = name; file = file; base = base; caller = caller; key = first_of (codes "key") rows; key_file = first_of (codes "key-file") rows }) (revision_number base) known result is))))
+
+puts_approval : (path : List ℕ) (approval : Approval) (result : Result Printed Failure) → put.AnswersApproval path approval result → Fine result
+puts_approval path approval result (inl none) = no_desk path result none
+puts_approval path approval result (inr (inl put)) = put_prints put.puts.answer result put.puts.prints
+puts_approval path approval result (inr (inr refused)) = refuses refused.why result refused.prints
+
+puts_proposal : (digest : List ℕ) (rows : List Row) (known : Option (List ℕ)) (result : Result Printed Failure) → put.AnswersPutProposal digest rows known result → Fine result
+puts_proposal digest rows known result is =
+    word _ _ (first_of (codes "DB") rows) result is (λ db is. word _ _ (first_of (codes "NAME") rows) result is (λ name is.
+    word _ _ (first_of (codes "base") rows) result is (λ base is. word _ _ (first_of (codes "caller") rows) result is (λ caller is.
+    after result is (λ number is. after result is (λ fine is. after result is (λ fine is. after result is (λ text is. puts_approval db _ result is.2))))))))
+
+puts_by : (file digest : Option (List ℕ)) (rows : List Row) (known : Option (List ℕ)) (result : Result Printed Failure) → put.AnswersPutBy file digest rows known result → Fine result
+puts_by (Some file) (Some digest) rows known result is = fails result _ is
+puts_by (Some file) None rows known result is = puts_file file rows known result is
+puts_by None (Some digest) rows known result is = puts_proposal digest rows known result is
+puts_by None None rows known result is = err_and _ result is
 
 puts : (rows : List Row) (known : Option (List ℕ)) (result : Result Printed Failure) → put.AnswersPut rows known result → Fine result
-puts rows known result is =
-    word _ _ (first_of (codes "DB") rows) result is (λ db is. word _ _ (first_of (codes "NAME") rows) result is (λ name is. word _ _ (first_of (codes "FILE") rows) result is (λ file is.
-    word _ _ (first_of (codes "base") rows) result is (λ base is. word _ _ (first_of (codes "caller") rows) result is (λ caller is. puts_base (record { db = db; name = name; file = file; base = base; caller = caller; key = first_of (codes "key") rows; key_file = first_of (codes "key-file") rows }) (revision_number base) known result is)))))
+puts rows known result is = puts_by (first_of (codes "FILE") rows) (first_of (codes "proposal") rows) rows known result is
 
 -- ---- files of a database, and its service
 

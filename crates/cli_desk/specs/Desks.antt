@@ -60,11 +60,6 @@ pub record OpensDesk {S V : Type 0} (g : Ghosts S) (image : Image) (desk : Shown
   pub found : HasCleanDisk (state g conn) → Opens (state g conn) × FindsIn image (state g conn)
   pub on : OpensOn g conn desk
 
--- The tables are as before, or a database of version 1 was migrated; and a crash leaves what it could before, or that migration.
-pub record OnlyMigrates (old new : State) : Type 0 where
-  pub tables : HasCleanDisk new → IsTrue new.is_open → (new.committed ≡ old.committed) ⊎ LeavesOpened old.committed new.committed
-  pub crash : Survives old new (MayMigrate old)
-
 -- An edit was made of the database of a connection, and has this answer: by how files stand in the desk that was opened on it,
 -- whatever the disk did. The database is one of this project, and so they stand by the history that it held; it then holds the
 -- history after the edit. A database of version 1 is migrated first. A crash at any moment leaves what it could before, the

@@ -20,6 +20,7 @@ refusal_status refused = 1
 abbrev pub refused_status : Refused → ℕ
 refused_status (refused.Edit why) = refusal_status why
 refused_status refused.NoRevision = 1
+refused_status refused.OtherProposal = 1
 refused_status refused.Store = 4
 refused_status refused.Schema = 4
 refused_status refused.Memory = 4

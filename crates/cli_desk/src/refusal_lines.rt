@@ -27,7 +27,7 @@ fn refused_status(why: &Refused) -> u8
 {
     match why {
         Refused::Edit(Refusal::Fault(_)) => 3,
-        Refused::Edit(_) | Refused::NoRevision => 1,
+        Refused::Edit(_) | Refused::NoRevision | Refused::OtherProposal => 1,
         Refused::Store | Refused::Schema | Refused::Memory => 4,
     }
 }

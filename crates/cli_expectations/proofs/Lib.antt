@@ -1,2 +1,5 @@
 pub mod Gathered
+pub mod LineEnds
+pub mod ListedOnce
+pub mod LogFloats
 pub mod Status

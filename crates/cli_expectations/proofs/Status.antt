@@ -38,4 +38,4 @@ status_zero law tables content expected printed promises (inl read) is =
       λ hold. kept.prints.status_is ∙ if_zero kept.report.broken (shown.count ∙ ap length (either.1 hold)),
     )
 status_zero law tables content expected printed promises (inr unread) is =
-    absurd (faulty (read_promises tables.netgroups tables.hosts expected.text) promises unread.placed.fault is unread.is.read)
+    absurd (faulty (read_promises tables.netgroups tables.hosts expected.text) promises unread.fault is unread.read)

@@ -1,8 +1,8 @@
--- How the fault of a text of expectations is printed. (this project's own)
-use Rattle.std.specs.Prelude.{◌≡◌, ℕ, ◌+◌, List, [], ◌∷◌, ◌++◌, Some, codes, length, slice_range, take}
+-- How the faults of a text of expectations are printed. (this project's own)
+use Rattle.std.specs.Prelude.{ℕ, ◌+◌, List, [], ◌∷◌, ◌++◌, Some, codes, length, slice_range, take}
 use Rattle.std.specs.Fmt.{decimal}
+use Rattle.std.specs.List.{flat_map}
 use Rattle.std.specs.Str.{chars}
-use Rattle.std.specs.String.{string_bytes}
 use Rattle.desk_text.specs.Place.{line_at}
 use Rattle.desk_text.specs.declared.place.Place.{Place}
 use Rattle.desk_text.specs.declared.reading.LineFault.{LineFault}
@@ -11,8 +11,6 @@ use Rattle.desk_expect.specs.declared.rules.PlacedFault.{PlacedFault}
 use Rattle.desk_expect.specs.declared.rules.Rule.{Rule}
 use Rattle.desk_check.specs.FindingPrints.{marked_line, shown_word}
 use Rattle.desk_shown.specs.ShownText.{shown_text}
-use Rattle.cli_output.specs.Printed.{Prints}
-use Rattle.cli_output.specs.declared.printed.Printed.{Printed}
 
 -- the number of a faulty line, and the rule that it breaks
 abbrev pub line_text : ℕ → List ℕ
@@ -38,16 +36,19 @@ abbrev pub slice_text : List ℕ → Place → List ℕ
 slice_text line place = codes "\"" ++ shown_word (slice_range line place.start place.end) ++ codes "\""
 
 -- what is said of it
-abbrev pub sentence_text : Rule → List ℕ
-sentence_text rule = 32 ∷ rule_sentence rule ++ 10 ∷ []
+abbrev pub said_text : Rule → List ℕ
+said_text rule = 32 ∷ rule_sentence rule
 
 -- The fault in the form in which `check` prints a finding, as `promises:4:15: fault 6 UnknownName: "freinds" is not a known netgroup or
 -- host: ..`; and below it the physical line, with carets under the slice.
 abbrev pub finding_text : List ℕ → List ℕ → PlacedFault → List ℕ
 finding_text path line placed =
-    position_text path line placed.place ++ rule_text placed.fault.rule ++ slice_text line placed.place ++ sentence_text placed.fault.rule ++ marked_line line (Some placed.place)
+    position_text path line placed.place ++ rule_text placed.fault.rule ++ slice_text line placed.place ++ said_text placed.fault.rule ++ 10 ∷ marked_line line (Some placed.place)
 
--- the fault of a text is printed in a line, and standard error shows it
-pub record PrintsFault (path text : List ℕ) (placed : PlacedFault) (printed : Printed) : Type 0 where
-  pub prints : Prints 3 (fault_line placed.fault) printed
-  pub shows : string_bytes printed.note ≡ finding_text path (line_at text placed.place.line) placed
+-- the same of a fault of a text: the line is that of its place
+abbrev pub finding_in : List ℕ → List ℕ → PlacedFault → List ℕ
+finding_in path text placed = finding_text path (line_at text placed.place.line) placed
+
+-- all of them, one after the other
+abbrev pub findings_text : List ℕ → List ℕ → List PlacedFault → List ℕ
+findings_text path text found = flat_map (finding_in path text) found

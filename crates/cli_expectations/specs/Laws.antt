@@ -5,7 +5,7 @@ use Rattle.desk_policy.specs.declared.parsing.SiteTables.{SiteTables}
 use Rattle.desk_expect.specs.Expectation.{Holds, Promise}
 use Rattle.desk_expect.specs.Reading.{read_promises}
 use Rattle.cli_output.specs.declared.printed.Printed.{Printed}
-use Rattle.cli_expectations.specs.Tested.{Expected, PrintsTested}
+use Rattle.cli_expectations.specs.TestedPolicy.{Expected, PrintsTested}
 
 -- What is printed of a text of expectations has the status 0 exactly if each line of the text holds.
 abbrev pub StatusZeroIsAllHold : Type 0

@@ -1,5 +1,13 @@
 pub mod BreachesJson
+pub mod BreachesLog
 pub mod FaultPrints
+pub mod FaultsLog
 pub mod Laws
+pub mod LogRules
+pub mod NamedLines
 pub mod PrivateBreachesJson
-pub mod Tested
+pub mod PrivateFaultPrints
+pub mod PrivateNamedLines
+pub mod RefusedText
+pub mod ReportForm
+pub mod TestedPolicy

@@ -60,7 +60,10 @@ fn breaches_of<'a>(alloc: Global, broken: &[Broken<'a>]) -> Result<Vec<Breach<'a
 }
 
 /// Adds those of an expectation.
-fn push_broken<'a>(broken: &Broken<'a>, found: &mut Vec<Breach<'a>>) -> Result<(), AllocError>
+pub(crate) fn push_broken<'a>(
+    broken: &Broken<'a>,
+    found: &mut Vec<Breach<'a>>,
+) -> Result<(), AllocError>
     ensures { OnOk result (map breach_value found.new.items ≡ map breach_value found.old.items ++ spec.breaches_of (broken_value broken.now)) }
 {
     for section in broken.sections.as_slice() {

@@ -1,41 +1,38 @@
-//! The fault of a text of expectations, as it is printed: its line, and on standard error what `check` would print of it.
+//! The faults of a text of expectations, as they are printed: the line of one, and what `check` would print of each.
 
-ghost use Rattle.std.specs.Prelude.{◌≡◌, ◌++◌, IfOk, OnOk};
+ghost use Rattle.std.specs.Prelude.{◌≡◌, ◌++◌, IfOk, OnOk, map};
+ghost use Rattle.std.specs.List.{All};
 ghost use Rattle.std.specs.String.{string_bytes};
-ghost use Rattle.desk_text.specs.Place.{LiesIn, LiesWithin, line_at};
+ghost use Rattle.desk_text.specs.Place.{LiesWithin};
 ghost use Rattle.cli_expectations.specs.FaultPrints as spec;
-ghost use Rattle.cli_expectations.specs.FaultPrints.{PrintsFault};
+ghost use Rattle.cli_expectations.specs.PrivateFaultPrints as private;
+ghost use Rattle.cli_expectations.specs.PrivateFaultPrints.{LiesAmong};
 
-use cli_output::printed::Printed;
 use desk_check::{push_marked_line, push_shown, push_word};
 use desk_expect::{PlacedFault, Rule};
-use desk_findings::{line_at, lines_of};
+use desk_findings::line_at;
 use desk_text::{LineFault, Place};
 use std::alloc::{AllocError, Global};
 
-/// Prints the fault of a text of expectations, with the status 3.
-pub fn print_fault(
+/// Writes what `check` would print of faults of a text of these lines.
+pub(crate) fn findings_text(
     alloc: Global,
     path: &str,
-    text: &str,
-    placed: PlacedFault,
-) -> Result<Printed, AllocError>
-    requires { LiesIn text.now placed.place }
-    ensures { IfOk result (PrintsFault path.now text.now placed) }
+    lines: &[&str],
+    found: &[PlacedFault],
+) -> Result<String, AllocError>
+    requires { All (LiesAmong (map (λ line. line.now) lines.now)) found.now }
+    ensures { IfOk result (λ note. string_bytes note ≡ private.findings_among path.now (map (λ line. line.now) lines.now) found.now) }
 {
-    let lines = lines_of(alloc, text)?;
-    let line = line_at(lines.as_slice(), placed.place.line);
-    let note = finding_text(alloc, path, line, placed)?;
-    let text = fault_text(alloc, placed.fault)?;
-    Ok(Printed {
-        status: 3,
-        text,
-        note,
-    })
+    let mut note = String::new(alloc);
+    for placed in found {
+        push_finding(path, line_at(lines, placed.place.line), *placed, &mut note)?;
+    }
+    Ok(note)
 }
 
 /// Writes the line of a fault.
-fn fault_text(alloc: Global, fault: LineFault<Rule>) -> Result<String, AllocError>
+pub(crate) fn fault_text(alloc: Global, fault: LineFault<Rule>) -> Result<String, AllocError>
     ensures { IfOk result (λ text. string_bytes text ≡ spec.fault_line fault) }
 {
     let mut text = String::new(alloc);
@@ -60,23 +57,23 @@ fn push_broken_rule(rule: Rule, text: &mut String) -> Result<(), AllocError>
     write!(text, " rule {number} {name}\n")
 }
 
-/// Writes what `check` would print of a fault: where it is and what the slice breaks, and the line with carets under the slice.
-fn finding_text(
-    alloc: Global,
+/// Adds what `check` would print of a fault: where it is and what the slice breaks, and the line with carets under the slice.
+fn push_finding(
     path: &str,
     line: &str,
     placed: PlacedFault,
-) -> Result<String, AllocError>
+    text: &mut String,
+) -> Result<(), AllocError>
     requires { LiesWithin line.now placed.place }
-    ensures { IfOk result (λ text. string_bytes text ≡ spec.finding_text path.now line.now placed) }
+    ensures { OnOk result (string_bytes text.new ≡ string_bytes text.old ++ spec.finding_text path.now line.now placed) }
 {
-    let mut text = String::new(alloc);
-    push_position(path, line, placed.place, &mut text)?;
-    push_rule(placed.fault.rule, &mut text)?;
-    push_slice(line, placed.place, &mut text)?;
-    push_sentence(placed.fault.rule, &mut text)?;
-    push_marked_line(line, placed.place, &mut text)?;
-    Ok(text)
+    push_position(path, line, placed.place, text)?;
+    push_rule(placed.fault.rule, text)?;
+    push_slice(line, placed.place, text)?;
+    push_said(placed.fault.rule, text)?;
+    text.push('\n')?;
+    push_marked_line(line, placed.place, text)?;
+    Ok(())
 }
 
 /// Adds where a fault is: its path, line and column.
@@ -100,7 +97,7 @@ fn push_rule(rule: Rule, text: &mut String) -> Result<(), AllocError>
 }
 
 /// Adds the slice at fault, in quotes.
-fn push_slice(line: &str, place: Place, text: &mut String) -> Result<(), AllocError>
+pub(crate) fn push_slice(line: &str, place: Place, text: &mut String) -> Result<(), AllocError>
     requires { LiesWithin line.now place }
     ensures { OnOk result (string_bytes text.new ≡ string_bytes text.old ++ spec.slice_text line.now place) }
 {
@@ -110,9 +107,9 @@ fn push_slice(line: &str, place: Place, text: &mut String) -> Result<(), AllocEr
 }
 
 /// Adds what is said of it.
-fn push_sentence(rule: Rule, text: &mut String) -> Result<(), AllocError>
-    ensures { OnOk result (string_bytes text.new ≡ string_bytes text.old ++ spec.sentence_text rule) }
+pub(crate) fn push_said(rule: Rule, text: &mut String) -> Result<(), AllocError>
+    ensures { OnOk result (string_bytes text.new ≡ string_bytes text.old ++ spec.said_text rule) }
 {
     let sentence = rule.sentence();
-    write!(text, " {sentence}\n")
+    write!(text, " {sentence}")
 }

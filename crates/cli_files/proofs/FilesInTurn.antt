@@ -1,8 +1,5 @@
 -- Files that are read in turn, for `files::read_if_given`.
-use Rattle.std.proofs.Common.{◌≡◌, ◌≢◌, ◌∙◌, ℕ, false, List, Option, None, Ok, Err, String, codes, sym}
-use Rattle.std.specs.Str.{bytes_eq}
-use Rattle.std.proofs.lemmas.Bool.{false≢true}
-use Rattle.std.proofs.lemmas.Slice.Eq.{bytes_eq-Decides}
+use Rattle.std.proofs.Common.{ℕ, List, Option, None, Ok, Err, String}
 use Rattle.std.specs.String.{string_bytes}
 use Rattle.cli_files.specs.Files.{HasText, LacksText, ReadsText}
 use Rattle.cli_output.specs.declared.failure.Failure.{Failure}
@@ -20,7 +17,3 @@ text_unknown argument word known text has = record { bytes = has.bytes; contents
 
 pub lacks_unknown : (argument : List ℕ) (word : List ℕ) (known : Option (List ℕ)) (failure : Failure) → LacksText argument word known failure → LacksText argument word None failure
 lacks_unknown argument word known failure lacks = record { bytes = lacks.bytes; contents = λ _. tt; says = lacks.says }
-
--- a word that a test does not find to name standard input does not name it
-pub not_input : (word : List ℕ) → bytes_eq word (codes "-") ≡ false → word ≢ codes "-"
-not_input word e same = false≢true (sym e ∙ (bytes_eq-Decides word (codes "-")).1 same)

@@ -1,3 +1,3 @@
 pub mod Failure
 pub mod Printed
-pub mod Shown
+pub mod ShownLines

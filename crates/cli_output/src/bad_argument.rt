@@ -14,6 +14,8 @@ pub enum ArgumentFault {
     Number(u32, u32),
     /// It does not list numbers of warnings, each once.
     Warnings,
+    /// It is not a digest as `proposal` tells it.
+    Digest,
 }
 
 /// An argument that cannot be parsed.
@@ -45,6 +47,9 @@ impl fmt::Display for ArgumentFault {
             }
             ArgumentFault::Warnings => f.write_str(
                 "it does not list numbers of warnings, each once, with commas between them, as 2,11",
+            ),
+            ArgumentFault::Digest => f.write_str(
+                "it is not a SHA-256 of 64 hexadecimal digits with small letters, as proposal tells it",
             ),
         }
     }

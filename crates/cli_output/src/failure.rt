@@ -40,7 +40,8 @@ pub enum Failure {
     Argument(BadArgument),
     /// MOUNT is given beside `--mounts`.
     BesideMounts,
-    /// There are more than 256 different mount points: the argument that gives them, as the usage names it, and how many there are.
+    /// There are more than 256 different mount points: the argument that gives them, as the usage names it, and how
+    /// many there are.
     TooManyMounts(&'static str, usize),
     /// The first line of standard input cannot be read.
     FirstLine(ReadFailure),

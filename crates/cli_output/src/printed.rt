@@ -4,10 +4,10 @@ ghost use Rattle.std.specs.Prelude.{◌≡◌, ◌≢◌, ◌⊎◌, IfOk, OnOk}
 ghost use Rattle.std.specs.Io.KnownBytes.{Appends};
 ghost use Rattle.cli_output.specs.Printed as spec;
 ghost use Rattle.cli_output.specs.Printed.{PrintsAtFour, PrintsFront, SaysOf, SaysSomething};
-ghost use Rattle.cli_output.specs.Shown.{shown_lines};
+ghost use Rattle.cli_output.specs.ShownLines.{shown_lines};
 
 use crate::failure::{Failure, Origin, message};
-use crate::shown::shown_lines;
+use crate::shown_lines::shown_lines;
 use std::alloc::{AllocError, Global};
 use std::io;
 use std::io::{ErrorKind, Write};
@@ -32,9 +32,9 @@ pub struct Reported {
     pub said: io::Result<()>,
 }
 
-/// Prints what a command answers, or why it has no answer, and gives the exit status. At the status 4 nothing else is printed than the
-/// answer, or that memory ran out, or a front of one of these if the print fails. Standard error says something of each failure but that
-/// memory ran out.
+/// Prints what a command answers, or why it has no answer, and gives the exit status. At the status 4 nothing else is
+/// printed than the answer, or that memory ran out, or a front of one of these if the print fails. Standard error says
+/// something of each failure but that memory ran out.
 pub fn report<O: Write, E: Write>(
     alloc: Global,
     origin: Origin,
@@ -88,8 +88,8 @@ fn say_failure<E: Write>(
     say(alloc, text.as_str(), err)
 }
 
-/// Says lines on standard error as they are shown, with each control character by its code; an error of the writer is given in the
-/// result.
+/// Says lines on standard error as they are shown, with each control character by its code; an error of the writer is
+/// given in the result.
 pub fn say<E: Write>(alloc: Global, lines: &str, err: &mut E) -> Result<io::Result<()>, AllocError>
     ensures { IfOk result (λ said. OnOk said (Appends (E.contents err.old) (E.contents err.new) (shown_lines lines.now))) }
 {

@@ -22,7 +22,7 @@ use Rattle.desk_service.specs.declared.questions.Looked.{Looked}
 use Rattle.desk_service.specs.declared.refused.Refused.TheVariants as refused
 use Rattle.cli_output.specs.Failure.{IsUnread}
 use Rattle.cli_output.specs.Printed.{Prints, PrintsText}
-use Rattle.cli_output.specs.Shown.{shown_lines}
+use Rattle.cli_output.specs.ShownLines.{shown_lines}
 use Rattle.cli_output.specs.declared.failure.Failure.{Failure}
 use Rattle.cli_output.specs.declared.printed.Printed.{Printed}
 use Rattle.cli_verdict.specs.TryText.{MountQuestion}
@@ -30,8 +30,8 @@ use Rattle.cli_database_files.specs.Copy.{is_out_of_memory}
 use Rattle.cli_desk.specs.Desks.{HasNoCopiedDesk, IsCopied}
 use Rattle.cli_desk.specs.RefusalNotes.{IsRefusedBy, copy_error}
 use Rattle.cli_desk.specs.RefusalLines.{IsRefused}
-use Rattle.cli_questions.specs.PrivateAnswering.{AnswersOnDesk, AnswersWith, HasHistory, IsSound, TriesToPrint, TriesToPrintWhy}
-use Rattle.cli_questions.specs.Questions.{AnswersQuestion, Asked, Breaches, Changes, Mounts, Plain, Printer, PrintsAnswer, PrintsSite, PrintsWhy, Ranges, Terms, exports_text, mount_in}
+use Rattle.cli_questions.specs.PrivateAnswering.{AnswersOnDesk, AnswersWith, HasHistory, IsSound, TriesToPrint, TriesToPrintLines, TriesToPrintObject, TriesToPrintSite, TriesToPrintWhy}
+use Rattle.cli_questions.specs.Questions.{AnswersQuestion, Asked, Breaches, Changes, Mounts, Plain, Printer, PrintsBy, PrintsLines, PrintsObject, PrintsSite, PrintsWhy, Ranges, Terms, exports_by, mount_in}
 
 -- a connection whose disk told no lie
 pub good_disk : (is_clean : Bool) → is_clean ≡ true → doubt is_clean ≡ 0
@@ -130,12 +130,29 @@ pub printed_by : {S V : Type 0} (g : Ghosts S) (desk : Shown S V) (asked : Asked
 printed_by g desk asked looked answer (Ok printed) by prints = λ history stands found. (answer, by history stands found, prints)
 printed_by g desk asked looked answer (Err failure) by prints = prints
 
+-- an answer is printed as an object, if that is asked
+pub object_printed : (asked : Asked) (answer : Answer) (result : Result Printed Failure) → asked.json ≡ true → TriesToPrintObject asked answer result → TriesToPrint asked answer result
+object_printed asked answer (Ok printed) e is = subst (λ (json : Bool). PrintsBy json asked answer printed) (sym e) is
+object_printed asked answer (Err failure) e is = is
+
+-- and else in lines
+pub lines_printed : (asked : Asked) (answer : Answer) (result : Result Printed Failure) → asked.json ≡ false → TriesToPrintLines asked answer result → TriesToPrint asked answer result
+lines_printed asked answer (Ok printed) e is = subst (λ (json : Bool). PrintsBy json asked answer printed) (sym e) is
+lines_printed asked answer (Err failure) e is = is
+
 -- why a mount is granted or denied is printed, by the printer
 pub why_printed : (asked : Asked) (answer : Answer) (content : Content) (reasons : List ℕ) (question : Option MountQuestion) (result : Result Printed Failure) → answer ≡ WhyIs content reasons → question ≡ mount_in asked.printer
-    → TriesToPrintWhy question content reasons result → TriesToPrint asked answer result
+    → TriesToPrintWhy question content reasons result → TriesToPrintLines asked answer result
 why_printed asked answer content reasons question (Ok printed) e same is =
-    subst (λ (a : Answer). PrintsAnswer asked a printed) (sym e) (subst (λ (q : Option MountQuestion). PrintsWhy q content reasons printed) same is)
+    subst (λ (a : Answer). PrintsLines asked a printed) (sym e) (subst (λ (q : Option MountQuestion). PrintsWhy q content reasons printed) same is)
 why_printed asked answer content reasons question (Err failure) e same is = is
+
+-- so it is where an object is asked for
+pub why_told : (asked : Asked) (answer : Answer) (content : Content) (reasons : List ℕ) (question : Option MountQuestion) (result : Result Printed Failure) → answer ≡ WhyIs content reasons → question ≡ mount_in asked.printer
+    → TriesToPrintWhy question content reasons result → TriesToPrintObject asked answer result
+why_told asked answer content reasons question (Ok printed) e same is =
+    subst (λ (a : Answer). PrintsObject asked a printed) (sym e) (subst (λ (q : Option MountQuestion). PrintsWhy q content reasons printed) same is)
+why_told asked answer content reasons question (Err failure) e same is = is
 
 -- the same, printed alone
 pub alone : (content : Content) (reasons : List ℕ) (result : Result Printed Failure) → PrintsText 0 (shown_lines reasons) result → TriesToPrintWhy None content reasons result
@@ -151,22 +168,39 @@ shows_exports (Breaches expected) = false
 shows_exports (Mounts question) = false
 shows_exports (Ranges path mountd) = false
 
-exports_shown : (site : WholeSite) (printer : Printer) (printed : Printed) → shows_exports printer ≡ true → Prints 0 (exports_text printer site.content) printed → PrintsSite site printer printed
-exports_shown site Plain printed e is = is
-exports_shown site Terms printed e is = is
-exports_shown site (Changes all) printed e is = is
-exports_shown site (Breaches expected) printed e is = absurd (cc)
-exports_shown site (Mounts question) printed e is = absurd (cc)
-exports_shown site (Ranges path mountd) printed e is = absurd (cc)
+exports_shown : (json : Bool) (site : WholeSite) (printer : Printer) (printed : Printed) → shows_exports printer ≡ true → Prints 0 (exports_by json printer site.content) printed → PrintsSite json site printer printed
+exports_shown json site Plain printed e is = is
+exports_shown json site Terms printed e is = is
+exports_shown json site (Changes all) printed e is = is
+exports_shown json site (Breaches expected) printed e is = absurd (cc)
+exports_shown json site (Mounts question) printed e is = absurd (cc)
+exports_shown json site (Ranges path mountd) printed e is = absurd (cc)
 
 -- all exports of a site are printed
-pub exports_printed : (asked : Asked) (site : WholeSite) (result : Result Printed Failure) → shows_exports asked.printer ≡ true → PrintsText 0 (exports_text asked.printer site.content) result → TriesToPrint asked (SiteIs site) result
-exports_printed asked site (Ok printed) e is = exports_shown site asked.printer printed e is
-exports_printed asked site (Err failure) e is = is
+pub exports_printed : (json : Bool) (site : WholeSite) (printer : Printer) (result : Result Printed Failure) → shows_exports printer ≡ true → PrintsText 0 (exports_by json printer site.content) result → TriesToPrintSite json site printer result
+exports_printed json site printer (Ok printed) e is = exports_shown json site printer printed e is
+exports_printed json site printer (Err failure) e is = is
+
+-- a site that is an answer is printed in lines
+pub site_printed : (asked : Asked) (answer : Answer) (site : WholeSite) (result : Result Printed Failure) → answer ≡ SiteIs site → TriesToPrintSite false site asked.printer result → TriesToPrintLines asked answer result
+site_printed asked answer site (Ok printed) e is = subst (λ (a : Answer). PrintsLines asked a printed) (sym e) is
+site_printed asked answer site (Err failure) e is = is
+
+-- the same as an object
+pub site_told : (asked : Asked) (answer : Answer) (site : WholeSite) (result : Result Printed Failure) → answer ≡ SiteIs site → TriesToPrintSite true site asked.printer result → TriesToPrintObject asked answer result
+site_told asked answer site (Ok printed) e is = subst (λ (a : Answer). PrintsObject asked a printed) (sym e) is
+site_told asked answer site (Err failure) e is = is
 
 -- a text that is an answer is printed
 pub text_printed : (asked : Asked) (answer known : Answer) (bytes : List ℕ) (result : Result Printed Failure)
-    → answer ≡ known → ((printed : Printed) → Prints 0 bytes printed → PrintsAnswer asked known printed)
-    → PrintsText 0 bytes result → TriesToPrint asked answer result
-text_printed asked answer known bytes (Ok printed) e is prints = subst (λ (a : Answer). PrintsAnswer asked a printed) (sym e) (is printed prints)
+    → answer ≡ known → ((printed : Printed) → Prints 0 bytes printed → PrintsLines asked known printed)
+    → PrintsText 0 bytes result → TriesToPrintLines asked answer result
+text_printed asked answer known bytes (Ok printed) e is prints = subst (λ (a : Answer). PrintsLines asked a printed) (sym e) (is printed prints)
 text_printed asked answer known bytes (Err failure) e is prints = prints
+
+-- an object that is an answer is printed
+pub text_told : (asked : Asked) (answer known : Answer) (status : ℕ) (bytes : List ℕ) (result : Result Printed Failure)
+    → answer ≡ known → ((printed : Printed) → Prints status bytes printed → PrintsObject asked known printed)
+    → PrintsText status bytes result → TriesToPrintObject asked answer result
+text_told asked answer known status bytes (Ok printed) e is prints = subst (λ (a : Answer). PrintsObject asked a printed) (sym e) (is printed prints)
+text_told asked answer known status bytes (Err failure) e is prints = prints

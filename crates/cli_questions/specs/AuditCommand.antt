@@ -4,7 +4,9 @@ use Rattle.std.specs.Option.{option_map}
 use Rattle.std.specs.String.{string_bytes}
 use Rattle.clap.specs.Words.{Row, first_of}
 use Rattle.desk_service.specs.Questions.{ForeseeProposedSite, ForeseeSite, Question, Site}
-use Rattle.cli_expectations.specs.Tested.{Expected}
+use Rattle.cli_expectations.specs.ReportForm.{GivesForm}
+use Rattle.cli_expectations.specs.TestedPolicy.{Expected}
+use Rattle.cli_expectations.specs.declared.expectations_file.ReportForm.{ReportForm}
 use Rattle.cli_output.specs.Failure.{IsMissing}
 use Rattle.cli_output.specs.declared.failure.Failure.{Failure}
 use Rattle.cli_output.specs.declared.failure.Failure.TheVariants.{BesideProposal}
@@ -15,11 +17,11 @@ use Rattle.cli_questions.specs.Questions.{AnswersQuestion, Asked, Breaches}
 use Rattle.cli_questions.specs.declared.audit_command.AuditTexts.{AuditTexts}
 use Rattle.cli_questions.specs.declared.audit_command.AuditWords.{AuditWords as LentWords}
 
--- what the words name: DB, EXPECTATIONS, NAME and FILE, if these are given; and whether what is broken is printed as JSON
+-- what the words name: DB, EXPECTATIONS, NAME and FILE, if these are given; and the form in which what is broken is printed
 pub record AuditWords : Type 0 where
   pub db : List ℕ
   pub expectations : List ℕ
-  pub json : Bool
+  pub form : ReportForm
   pub name : Option (List ℕ)
   pub file : Option (List ℕ)
 
@@ -28,7 +30,7 @@ abbrev pub words_of : LentWords → AuditWords
 words_of words = record {
   db = words.db.now;
   expectations = words.expectations.now;
-  json = words.json;
+  form = words.form;
   name = option_map (λ word. word.now) words.name;
   file = option_map (λ word. word.now) words.file;
 }
@@ -53,13 +55,17 @@ site_question words text = question_on words.name words.file text
 
 -- a question on a site, of which is printed which of these expectations it breaks
 abbrev pub auditing : Question → Expected → Asked
-auditing question expected = record { question = question; printer = Breaches expected }
+auditing question expected = record { question = question; printer = Breaches expected; json = false }
+
+-- a text as the expectations of a database
+abbrev pub expected_by : AuditWords → List ℕ → Expected
+expected_by words text = record { path = words.expectations; text = text; form = words.form; exports = None }
 
 -- the answer by the text of EXPECTATIONS, and that of FILE
 abbrev pub AnswersTexts : AuditWords → AuditTexts → Result Printed Failure → Type 0
 AnswersTexts words texts result =
     AnswersQuestion words.db
-    (auditing (site_question words (string_bytes texts.other)) (record { path = words.expectations; text = string_bytes texts.expectations; json = words.json })) result
+    (auditing (site_question words (string_bytes texts.other)) (expected_by words (string_bytes texts.expectations))) result
 
 -- the files have these texts, or it is said why one of them has none, or that both are to be standard input
 abbrev pub ReadsTexts : AuditWords → Option (List ℕ) → Result AuditTexts Failure → Type 0
@@ -83,12 +89,16 @@ AnswersIf None None true words known result = IsErrAnd result (IsMissing (codes 
 abbrev pub AnswersBy : AuditWords → Bool → Option (List ℕ) → Result Printed Failure → Type 0
 AnswersBy words proposal known result = AnswersIf words.name words.file proposal words known result
 
--- what the words of `audit` name, with these DB and EXPECTATIONS
-abbrev pub words_in : List Row → List ℕ → List ℕ → AuditWords
-words_in rows db expectations =
-    record { db = db; expectations = expectations; json = is_set (codes "json") rows; name = first_of (codes "NAME") rows; file = first_of (codes "FILE") rows }
+-- what the words of `audit` name, with this form and these DB and EXPECTATIONS
+abbrev pub words_in : List Row → ReportForm → List ℕ → List ℕ → AuditWords
+words_in rows form db expectations =
+    record { db = db; expectations = expectations; form = form; name = first_of (codes "NAME") rows; file = first_of (codes "FILE") rows }
 
--- the answer of `audit` to its words
+-- the answer to words that ask for this form
+abbrev pub AnswersInForm : List Row → Option (List ℕ) → ReportForm → Result Printed Failure → Type 0
+AnswersInForm rows known form result =
+    ByWord (codes "DB") rows (λ db. ByWord (codes "EXPECTATIONS") rows (λ expectations. AnswersBy (words_in rows form db expectations) (is_set (codes "proposal") rows) known)) result
+
+-- the answer of `audit` to its words: a list and a log cannot both be asked for
 abbrev pub AnswersAudit : List Row → Option (List ℕ) → Result Printed Failure → Type 0
-AnswersAudit rows known result =
-    ByWord (codes "DB") rows (λ db. ByWord (codes "EXPECTATIONS") rows (λ expectations. AnswersBy (words_in rows db expectations) (is_set (codes "proposal") rows) known)) result
+AnswersAudit rows known result = After (GivesForm (is_set (codes "json") rows) (is_set (codes "sarif") rows)) (AnswersInForm rows known) result

@@ -1,6 +1,8 @@
 pub mod AuditCommand
 pub mod FileLines
+pub mod Objects
 pub mod PrivateAnswering
+pub mod ProposalNote
 pub mod QuestionCommands
 pub mod Questions
 pub mod RevisionLines

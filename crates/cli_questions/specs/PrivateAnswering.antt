@@ -1,10 +1,11 @@
 -- What a desk on a copy of a database answers, before it is known what the database was. (this project's own)
-use Rattle.std.specs.Prelude.{◌≡◌, ◌⊎◌, ℕ, List, [], Option, Result, Ok, Err}
+use Rattle.std.specs.Prelude.{◌≡◌, ◌⊎◌, ℕ, Bool, List, [], Option, Result, Ok, Err}
 use Rattle.sqlite_trees.specs.declared.store.Store.{Ghosts}
 use Rattle.desk_policy.specs.Policy.{Content}
 use Rattle.desk_core.specs.Foresight.{IsForesightOf}
 use Rattle.desk_store.specs.Desk.{History, Shown, StandsAt}
 use Rattle.desk_service.specs.Questions.{Answer, ForeseenIs, IsLookedUp, Question}
+use Rattle.desk_service.specs.Sites.{WholeSite}
 use Rattle.desk_service.specs.declared.questions.Looked.{Looked}
 use Rattle.desk_service.specs.declared.refused.Refused.TheVariants as refused
 use Rattle.cli_output.specs.declared.failure.Failure.{Failure}
@@ -12,7 +13,7 @@ use Rattle.cli_output.specs.declared.failure.Failure.TheVariants.{Memory}
 use Rattle.cli_output.specs.declared.printed.Printed.{Printed}
 use Rattle.cli_verdict.specs.TryText.{Answer as Told, MountQuestion}
 use Rattle.cli_desk.specs.RefusalLines.{Says}
-use Rattle.cli_questions.specs.Questions.{Asked, PrintsAnswer, PrintsByHistory, PrintsVerdict, PrintsWhy}
+use Rattle.cli_questions.specs.Questions.{Asked, Printer, PrintsAnswer, PrintsByHistory, PrintsLines, PrintsObject, PrintsSite, PrintsVerdict, PrintsWhy}
 
 -- what is foreseen is of the policy in force
 abbrev pub IsSound : Answer → Type 0
@@ -24,6 +25,16 @@ abbrev pub TriesToPrint : Asked → Answer → Result Printed Failure → Type 0
 TriesToPrint asked answer (Ok printed) = PrintsAnswer asked answer printed
 TriesToPrint asked answer (Err failure) = failure ≡ Memory
 
+-- the same in lines
+abbrev pub TriesToPrintLines : Asked → Answer → Result Printed Failure → Type 0
+TriesToPrintLines asked answer (Ok printed) = PrintsLines asked answer printed
+TriesToPrintLines asked answer (Err failure) = failure ≡ Memory
+
+-- the same as an object
+abbrev pub TriesToPrintObject : Asked → Answer → Result Printed Failure → Type 0
+TriesToPrintObject asked answer (Ok printed) = PrintsObject asked answer printed
+TriesToPrintObject asked answer (Err failure) = failure ≡ Memory
+
 -- a verdict is printed, or memory ran out
 abbrev pub TriesToPrintVerdict : Told → Result Printed Failure → Type 0
 TriesToPrintVerdict tried (Ok printed) = PrintsVerdict tried printed
@@ -33,6 +44,11 @@ TriesToPrintVerdict tried (Err failure) = failure ≡ Memory
 abbrev pub TriesToPrintWhy : Option MountQuestion → Content → List ℕ → Result Printed Failure → Type 0
 TriesToPrintWhy question content reasons (Ok printed) = PrintsWhy question content reasons printed
 TriesToPrintWhy question content reasons (Err failure) = failure ≡ Memory
+
+-- a site is printed, or memory ran out
+abbrev pub TriesToPrintSite : Bool → WholeSite → Printer → Result Printed Failure → Type 0
+TriesToPrintSite json site printer (Ok printed) = PrintsSite json site printer printed
+TriesToPrintSite json site printer (Err failure) = failure ≡ Memory
 
 -- a desk stands at a history, and nothing is pending
 abbrev pub HasHistory : {S V : Type 0} → Ghosts S → Shown S V → Type 0

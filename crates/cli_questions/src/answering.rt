@@ -16,20 +16,22 @@ use desk_service::{Looked, Question, answer, look_up};
 use desk_text::Path;
 use std::alloc::Global;
 
-/// How the answer to a question is printed, with what that needs. An answer that a printer is not for is printed plainly.
+/// How the answer to a question is printed, with what that needs. An answer that a printer is not for is printed
+/// plainly.
 #[derive(Clone, Copy)]
 pub enum Printer<'a> {
     /// As it is; of a site, all its exports.
     Plain,
     /// All exports, with their terms.
     Terms,
-    /// What would change, with the changes that matter to no client, too, if this is set. The word names the file of the text that is
-    /// foreseen, unless that is a proposal.
+    /// What would change, with the changes that matter to no client, too, if this is set. The word names the file of
+    /// the text that is foreseen, unless that is a proposal.
     Changes(Option<&'a str>, bool),
-    /// Which of these expectations a site breaks. The word names the file of the text that is foreseen, if there is one.
+    /// Which of these expectations a site breaks. The word names the file of the text that is foreseen, if there is
+    /// one.
     Breaches(Option<&'a str>, ExpectationsFile<'a>),
     /// Whether a client may mount a directory of a site.
-    Mount(MountQuestion<'a>),
+    Mounts(MountQuestion<'a>),
     /// Who may mount a directory of a site, by the rule of mountd(8) if this is set.
     Ranges(&'a Path, bool),
 }
@@ -39,6 +41,8 @@ pub enum Printer<'a> {
 pub struct Asked<'a> {
     pub question: Question<'a>,
     pub printer: Printer<'a>,
+    /// Whether the answer is printed as one object of JSON. (A printer with expectations has a form of its own.)
+    pub json: bool,
 }
 
 /// Answers a question by the database at a path.
@@ -47,7 +51,7 @@ pub fn answer_question(rt: &HostRuntime, db: &str, asked: Asked<'_>) -> Result<P
 {
     match open_copied_desk(rt, db) {
         Ok(mut desk) => {
-            let printed = answer_by(rt.alloc(), db, &mut desk, asked);
+            let printed = answer_copied_desk(rt.alloc(), db, &mut desk, asked);
             drop(desk);
             printed
         }
@@ -55,9 +59,9 @@ pub fn answer_question(rt: &HostRuntime, db: &str, asked: Asked<'_>) -> Result<P
     }
 }
 
-/// Answers a question by a desk on a copy: first the statements that it takes are made, and then it is answered by what they found. An
-/// error of the copy's disk is reported as out of memory.
-fn answer_by(
+/// Answers a question by a desk on a copy: first the statements that it takes are made, and then it is answered by what
+/// they found. An error of the copy's disk is reported as out of memory.
+fn answer_copied_desk(
     alloc: Global,
     db: &str,
     desk: &mut CopiedDesk,
@@ -67,13 +71,13 @@ fn answer_by(
     ensures { AnswersOnDesk over_files desk.old (asked_of asked.entry) result }
 {
     match look_up(alloc, desk, asked.question) {
-        Ok(looked) => answer_with(alloc, desk, asked, looked),
+        Ok(looked) => answer_looked_up(alloc, desk, asked, looked),
         Err(error) => refused_by_copy(alloc, db, error),
     }
 }
 
 /// Answers a question by a desk, and by what the statements that it takes have found.
-fn answer_with(
+fn answer_looked_up(
     alloc: Global,
     desk: &CopiedDesk,
     asked: Asked<'_>,

@@ -5,8 +5,9 @@ ghost use Rattle.std.specs.Prelude.{◌≡◌, ◌≤◌, IfOk, length};
 ghost use Rattle.std.specs.Option.{option_map};
 ghost use Rattle.std.specs.Result.{result_map_both};
 ghost use Rattle.std.specs.String.{string_bytes};
+ghost use Rattle.desk_text.specs.Lines.{IsReadable};
 ghost use Rattle.desk_service.specs.Questions.{question_of};
-ghost use Rattle.cli_expectations.specs.Tested.{expected_of};
+ghost use Rattle.cli_expectations.specs.TestedPolicy.{expected_of};
 ghost use Rattle.cli_files.specs.Files.{ReadsFiles, is_input_if_given, name_input_twice};
 ghost use Rattle.cli_words.specs.Words.{rows_in};
 ghost use Rattle.cli_questions.specs.AuditCommand as spec;
@@ -14,7 +15,7 @@ ghost use Rattle.cli_questions.specs.Questions.{asked_of};
 
 use crate::answering::{Asked, Printer, answer_question};
 use clap::ArgMatches;
-use cli_expectations::expectations_file::ExpectationsFile;
+use cli_expectations::expectations_file::{ExpectationsFile, ReportForm, form_by};
 use cli_files::files::{is_input, read_if_given};
 use cli_output::failure::Failure;
 use cli_output::printed::Printed;
@@ -27,7 +28,8 @@ use std::io::BufRead;
 pub struct AuditWords<'a> {
     pub db: &'a str,
     pub expectations: &'a str,
-    pub json: bool,
+    /// The form in which it is printed what is broken.
+    pub form: ReportForm,
     /// The name of the file that would have another text, if it is given.
     pub name: Option<&'a str>,
     /// The file of that text, if it is given.
@@ -41,7 +43,8 @@ pub struct AuditTexts {
     pub other: String,
 }
 
-/// Answers `audit DB EXPECTATIONS [NAME FILE]`, or with `--proposal` in the place of FILE. The texts are read before the database is.
+/// Answers `audit DB EXPECTATIONS [NAME FILE]`, or with `--proposal` in the place of FILE. Whether its forms can be given together comes
+/// first. The texts are read before the database is.
 pub fn run_audit<I: BufRead>(
     rt: &HostRuntime,
     words: &ArgMatches<'_>,
@@ -49,12 +52,25 @@ pub fn run_audit<I: BufRead>(
 ) -> Result<Printed, Failure>
     ensures { spec.AnswersAudit (rows_in words.now) (I.remaining input.old) result }
 {
+    let form = form_by(is_set(words, "json"), is_set(words, "sarif"))?;
+    audit_in_form(rt, words, form, input)
+}
+
+/// Answers in the form that the words ask for.
+fn audit_in_form<I: BufRead>(
+    rt: &HostRuntime,
+    words: &ArgMatches<'_>,
+    form: ReportForm,
+    input: &mut I,
+) -> Result<Printed, Failure>
+    ensures { spec.AnswersInForm (rows_in words.now) (I.remaining input.old) form result }
+{
     let db = required(words, "DB")?;
     let expectations = required(words, "EXPECTATIONS")?;
     let named = AuditWords {
         db,
         expectations,
-        json: is_set(words, "json"),
+        form,
         name: given(words, "NAME"),
         file: given(words, "FILE"),
     };
@@ -89,11 +105,7 @@ fn audit_files<I: BufRead>(
     ensures { spec.AnswersFiles (spec.words_of words.entry) (I.remaining input.old) result }
 {
     let texts = read_texts(rt, words, input)?;
-    let expected = ExpectationsFile {
-        path: words.expectations,
-        text: texts.expectations.as_str(),
-        json: words.json,
-    };
+    let expected = expected_by(words, texts.expectations.as_str());
     let question = site_question(words, texts.other.as_str());
     answer_question(rt, words.db, auditing(question, words, expected))
 }
@@ -146,6 +158,19 @@ fn site_question<'a>(words: AuditWords<'a>, text: &'a str) -> Question<'a>
     }
 }
 
+/// Returns this text as the expectations of a database.
+fn expected_by<'a>(words: AuditWords<'a>, text: &'a str) -> ExpectationsFile<'a>
+    requires { IsReadable text.now }
+    ensures { expected_of result ≡ spec.expected_by (spec.words_of words.entry) text.entry.now }
+{
+    ExpectationsFile {
+        path: words.expectations,
+        text,
+        form: words.form,
+        exports: None,
+    }
+}
+
 /// Returns a question on a site, of which is printed which of these expectations it breaks.
 fn auditing<'a>(
     question: Question<'a>,
@@ -157,5 +182,6 @@ fn auditing<'a>(
     Asked {
         question,
         printer: Printer::Breaches(words.file, expected),
+        json: false,
     }
 }

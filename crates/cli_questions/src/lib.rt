@@ -11,6 +11,7 @@ mod answering;
 pub mod audit_command;
 mod file_lines;
 mod notes;
+mod objects;
 mod printing;
 pub mod question_commands;
 pub mod report_command;

@@ -1,8 +1,9 @@
-//! What standard error says beside the answer to a question. Of it one thing is promised: that a file is guarded is said of guarded
-//! files alone.
+//! What standard error says beside the answer to a question. Of it two things are promised: that a file is guarded is
+//! said of guarded files alone; and the digest that is said of a proposal is that of its text.
 
 ghost use Rattle.std.specs.Prelude.{◌≡◌, [], false, IfOk, None};
 ghost use Rattle.std.specs.String.{string_bytes};
+ghost use Rattle.cli_questions.specs.ProposalNote.{EndsWithDigest};
 
 use crate::answering::{Asked, Printer};
 use crate::revision_lines::counts_classes;
@@ -10,9 +11,9 @@ use cli_desk::View;
 use cli_desk::desks::CopiedDesk;
 use cli_desk::refusal_notes::{too_large_note, unknown_file_note};
 use cli_desk::site_notes::{NewText, edit_fault_note};
-use desk_core::Refusal;
+use desk_core::{Proposal, Refusal};
 use desk_policy::SiteFault;
-use desk_service::{Answer, FileQuestion, FileText, Foreseen, Looked, Question, answer};
+use desk_service::{Answer, FileQuestion, FileText, Foreseen, Looked, Question, answer, digest_of};
 use std::alloc::{AllocError, Global};
 
 /// Says that the file of a question, its revision of the number that is asked for, or its proposal is not there.
@@ -66,7 +67,33 @@ pub(crate) fn proposal_note(
     )
 }
 
-/// Says who proposes the text that is foreseen; or, if its file is guarded, that it would be proposed; and else nothing.
+/// Says who proposes a text for a file, on which revision, and the digest of the text, by which `put --proposal` names
+/// it.
+pub(crate) fn proposal_text_note(
+    alloc: Global,
+    name: &str,
+    proposal: &Proposal,
+) -> Result<String, AllocError>
+    ensures { IfOk result (EndsWithDigest proposal.now.body) }
+{
+    let author = proposal.author.as_str();
+    let note = proposal_note(alloc, name, author, proposal.base)?;
+    with_digest(alloc, note.as_str(), name, proposal.body.as_str())
+}
+
+/// Writes the digest of a text below a note on it.
+fn with_digest(alloc: Global, note: &str, name: &str, text: &str) -> Result<String, AllocError>
+    ensures { IfOk result (EndsWithDigest text.now) }
+{
+    let digest = digest_of(alloc, text)?;
+    let mut said = format!(in alloc; "{note}exportdesk: NAME {name:?}: its SHA-256 is ")?;
+    said.push_str(digest.as_str())?;
+    said.push_str("\n")?;
+    Ok(said)
+}
+
+/// Says who proposes the text that is foreseen; or, if its file is guarded, that it would be proposed; and else
+/// nothing.
 pub(crate) fn foreseen_note(
     alloc: Global,
     question: Question<'_>,

@@ -1,4 +1,4 @@
-//! How the answer to a question is printed, with what standard error says beside it.
+//! How the answer to a question is printed, with what standard error says beside it: in lines, or as one object of JSON.
 
 ghost use Rattle.std.specs.Prelude.{◌≡◌, ℕ, IfOk, List, None, Some};
 ghost use Rattle.std.specs.Option.{option_map};
@@ -6,39 +6,39 @@ ghost use Rattle.std.specs.String.{string_bytes};
 ghost use Rattle.desk_impact.specs.Report.{IsReport};
 ghost use Rattle.desk_policy.specs.Verdict.{verdict_result};
 ghost use Rattle.desk_service.specs.Foreseeing.{content_after, foreseen_of};
-ghost use Rattle.desk_service.specs.Questions.{ForeseenIs, SiteIs, answer_of, question_of};
+ghost use Rattle.desk_service.specs.Questions.{ForeseenIs, answer_of, question_of};
 ghost use Rattle.desk_service.specs.Sites.{site_of};
 ghost use Rattle.cli_output.specs.Printed.{PrintsText};
 ghost use Rattle.cli_verdict.specs.TryText as told;
 ghost use Rattle.cli_verdict.specs.TryText.{mount_question_of};
-ghost use Rattle.cli_questions.specs.PrivateAnswering.{IsSound, TriesToPrint, TriesToPrintVerdict, TriesToPrintWhy};
-ghost use Rattle.cli_questions.specs.Questions.{asked_of, exports_text, file_in, mount_in, printer_of, prints_all};
+ghost use Rattle.cli_questions.specs.PrivateAnswering.{IsSound, TriesToPrint, TriesToPrintLines, TriesToPrintSite, TriesToPrintVerdict, TriesToPrintWhy};
+ghost use Rattle.cli_questions.specs.Questions.{asked_of, exports_by, exports_text, file_in, mount_in, printer_of, prints_all};
 
 use crate::answering::{Asked, Printer};
 use crate::file_lines::files_text;
-use crate::notes::{foreseen_note, no_revision_note, proposal_note, refusal_note, text_note};
+use crate::notes::{foreseen_note, no_revision_note, proposal_text_note, refusal_note, text_note};
+use crate::objects::{line_of, print_object};
 use crate::revision_lines::log_text;
 use cli_desk::View;
 use cli_desk::desks::CopiedDesk;
 use cli_desk::refusal_lines::refused;
-use cli_expectations::tested::print_tested;
+use cli_expectations::tested_policy::print_tested;
 use cli_output::failure::Failure;
 use cli_output::printed::Printed;
-use cli_output::shown::shown_lines;
+use cli_output::shown_lines::shown_lines;
 use cli_verdict::{
     MountQuestion, print_ranges, print_tried, printed_verdict, tried_by, tried_with,
 };
-use desk_core::Foresight;
+use desk_core::{Foresight, Proposal};
 use desk_impact::{Report, impact_report, lines_report};
+use desk_json::exports_object;
 use desk_policy::{Policy, PolicyView, Verdict, all_exports, all_terms, listing_text};
 use desk_server_notes::news_note;
-use desk_service::{
-    Answer, FileText, Foreseen, Looked, ProposalText, Question, Refused, WholeSite, answer,
-};
+use desk_service::{Answer, FileText, Foreseen, Looked, Question, Refused, WholeSite, answer};
 use desk_who::who_text;
 use std::alloc::{AllocError, Global};
 
-/// Prints the answer of a desk to a question.
+/// Prints the answer of a desk to a question: as one object, if that is asked, and else in lines.
 pub(crate) fn print_answer(
     alloc: Global,
     desk: &CopiedDesk,
@@ -47,6 +47,24 @@ pub(crate) fn print_answer(
 ) -> Result<Printed, Failure>
     requires { IsSound (answer_of (λ content. content) answer) }
     ensures { TriesToPrint (asked_of asked.entry) (answer_of (λ content. content) answer.entry) result }
+{
+    let json = asked.json;
+    if json {
+        print_object(alloc, desk, asked, answer)
+    } else {
+        print_lines(alloc, desk, asked, answer)
+    }
+}
+
+/// Prints the answer of a desk to a question in lines.
+fn print_lines(
+    alloc: Global,
+    desk: &CopiedDesk,
+    asked: Asked<'_>,
+    answer: Answer<'_, View>,
+) -> Result<Printed, Failure>
+    requires { IsSound (answer_of (λ content. content) answer) }
+    ensures { TriesToPrintLines (asked_of asked.entry) (answer_of (λ content. content) answer.entry) result }
 {
     match answer {
         Answer::Verdict(policy, verdict) => print_verdict(alloc, policy, &verdict),
@@ -68,14 +86,14 @@ pub(crate) fn print_answer(
             alloc,
             log_text(alloc, name_in(asked.question), revisions.as_slice()),
         ),
-        Answer::Proposal(proposal) => print_proposal(alloc, name_in(asked.question), &proposal),
+        Answer::Proposal(proposal) => print_proposal(alloc, name_in(asked.question), proposal),
         Answer::NoRevision => {
             let note = no_revision_note(alloc, asked.question)?;
             refused(alloc, Refused::NoRevision, note)
         }
         Answer::Files(files) => print_text(alloc, files_text(alloc, &files)),
         Answer::Foreseen(foreseen) => print_changes(alloc, desk, asked, &foreseen),
-        Answer::Site(site) => print_site(alloc, asked, &site),
+        Answer::Site(site) => print_site(alloc, asked.printer, false, &site),
         Answer::Refused(refusal) => {
             let note = refusal_note(alloc, desk, asked, &refusal)?;
             refused(alloc, Refused::Edit(refusal), note)
@@ -84,7 +102,7 @@ pub(crate) fn print_answer(
 }
 
 /// Returns the name of the file that a question is on; empty if it is on none.
-fn name_in<'a>(question: Question<'a>) -> &'a str
+pub(crate) fn name_in<'a>(question: Question<'a>) -> &'a str
     ensures { result.now ≡ file_in (question_of question.entry) }
 {
     match question {
@@ -94,7 +112,10 @@ fn name_in<'a>(question: Question<'a>) -> &'a str
 }
 
 /// Prints a text as it is, unless memory ran out for it.
-fn print_text(alloc: Global, text: Result<String, AllocError>) -> Result<Printed, Failure>
+pub(crate) fn print_text(
+    alloc: Global,
+    text: Result<String, AllocError>,
+) -> Result<Printed, Failure>
     ensures { (bytes : List ℕ) → IfOk text (λ text. string_bytes text ≡ bytes) → PrintsText 0 bytes result }
 {
     match text {
@@ -126,17 +147,17 @@ fn print_verdict(alloc: Global, policy: &Policy, verdict: &Verdict<'_>) -> Resul
 }
 
 /// Returns the question of a client whether it may mount a directory, if the printer has it.
-fn mount_in<'a>(printer: Printer<'a>) -> Option<MountQuestion<'a>>
+pub(crate) fn mount_in<'a>(printer: Printer<'a>) -> Option<MountQuestion<'a>>
     ensures { option_map mount_question_of result ≡ mount_in (printer_of printer.entry) }
 {
     match printer {
-        Printer::Mount(question) => Some(question),
+        Printer::Mounts(question) => Some(question),
         _ => None,
     }
 }
 
 /// Prints a verdict and why, as `try --why` does, to whom asks this; and else why alone.
-fn print_why(
+pub(crate) fn print_why(
     alloc: Global,
     question: Option<MountQuestion<'_>>,
     view: &View,
@@ -176,11 +197,11 @@ fn print_revision(alloc: Global, name: &str, text: &FileText) -> Result<Printed,
     })
 }
 
-/// Prints the text of a proposal. Standard error says who proposes it, and on which revision.
-fn print_proposal(alloc: Global, name: &str, proposal: &ProposalText) -> Result<Printed, Failure>
+/// Prints the text of a proposal. Standard error says who proposes it, on which revision, and the digest of the text.
+fn print_proposal(alloc: Global, name: &str, proposal: &Proposal) -> Result<Printed, Failure>
     ensures { PrintsText 0 proposal.now.body result }
 {
-    let note = proposal_note(alloc, name, proposal.author.as_str(), proposal.base)?;
+    let note = proposal_text_note(alloc, name, proposal)?;
     let body = String::from_str(alloc, proposal.body.as_str())?;
     Ok(Printed {
         status: 0,
@@ -189,8 +210,7 @@ fn print_proposal(alloc: Global, name: &str, proposal: &ProposalText) -> Result<
     })
 }
 
-/// Prints what would change, as it is shown. Standard error says who proposes the text, or that it would be proposed, and what
-/// mountd(8) would grant more.
+/// Prints what would change, as it is shown.
 fn print_changes(
     alloc: Global,
     desk: &CopiedDesk,
@@ -198,11 +218,9 @@ fn print_changes(
     foreseen: &Foreseen<'_, View>,
 ) -> Result<Printed, Failure>
     requires { IsSound (ForeseenIs (foreseen_of (λ content. content) foreseen.now)) }
-    ensures { TriesToPrint (asked_of asked.entry) (ForeseenIs (foreseen_of (λ content. content) foreseen.now)) result }
+    ensures { TriesToPrintLines (asked_of asked.entry) (ForeseenIs (foreseen_of (λ content. content) foreseen.now)) result }
 {
-    let news = news_of(alloc, desk, asked.question)?;
-    let mut note = foreseen_note(alloc, asked.question, foreseen)?;
-    note.push_str(news.as_str())?;
+    let note = changes_note(alloc, desk, asked.question, foreseen)?;
     let report = report_of(alloc, foreseen, prints_all(asked.printer))?;
     let text = shown_lines(alloc, report.text.as_str())?;
     Ok(Printed {
@@ -213,13 +231,26 @@ fn print_changes(
 }
 
 /// Tests whether changes that matter to no client are printed, too.
-fn prints_all(printer: Printer<'_>) -> bool
+pub(crate) fn prints_all(printer: Printer<'_>) -> bool
     ensures { result ≡ prints_all (printer_of printer.entry) }
 {
     match printer {
         Printer::Changes(_, all) => all,
         _ => false,
     }
+}
+
+/// Says who proposes the text that is foreseen, or that it would be proposed, and what mountd(8) would grant more.
+pub(crate) fn changes_note(
+    alloc: Global,
+    desk: &CopiedDesk,
+    question: Question<'_>,
+    foreseen: &Foreseen<'_, View>,
+) -> Result<String, AllocError> {
+    let news = news_of(alloc, desk, question)?;
+    let mut note = foreseen_note(alloc, question, foreseen)?;
+    note.push_str(news.as_str())?;
+    Ok(note)
 }
 
 /// Says what mountd(8) would grant more. Its rule is asked of the whole site as it would be.
@@ -246,26 +277,30 @@ fn report_of(alloc: Global, foreseen: &Foreseen<'_, View>, all: bool) -> Result<
     }
 }
 
-/// Prints of a site which expectations it breaks, whether a client may mount a directory, or who may; and plainly all its exports.
-fn print_site(
+/// Prints of a site which expectations it breaks, whether a client may mount a directory, or who may; and plainly all
+/// its exports. The last two are printed as one object, if that is asked here; the first two know it themselves.
+pub(crate) fn print_site(
     alloc: Global,
-    asked: Asked<'_>,
+    printer: Printer<'_>,
+    json: bool,
     site: &WholeSite<'_, View>,
 ) -> Result<Printed, Failure>
-    ensures { TriesToPrint (asked_of asked.entry) (SiteIs (site_of (λ content. content) site.now)) result }
+    ensures { TriesToPrintSite json (site_of (λ content. content) site.now) (printer_of printer.entry) result }
 {
-    match asked.printer {
+    match printer {
         Printer::Breaches(_, expected) => {
             Ok(print_tested(alloc, site.tables(), site.view(), expected)?)
         }
-        Printer::Mount(question) => {
+        Printer::Mounts(question) => {
             let tried = tried_by(alloc, site.view(), site.tables(), question)?;
             Ok(print_tried(tried))
         }
-        Printer::Ranges(path, mountd) => Ok(print_ranges(alloc, site.view(), path, mountd)?),
-        Printer::Plain => print_exports(alloc, site, asked.printer),
-        Printer::Terms => print_exports(alloc, site, asked.printer),
-        Printer::Changes(_, _) => print_exports(alloc, site, asked.printer),
+        Printer::Ranges(path, mountd) => {
+            Ok(print_ranges(alloc, site.view(), path, mountd, json)?)
+        }
+        Printer::Plain => print_exports(alloc, site, printer, json),
+        Printer::Terms => print_exports(alloc, site, printer, json),
+        Printer::Changes(_, _) => print_exports(alloc, site, printer, json),
     }
 }
 
@@ -274,8 +309,28 @@ fn print_exports(
     alloc: Global,
     site: &WholeSite<'_, View>,
     printer: Printer<'_>,
+    json: bool,
 ) -> Result<Printed, Failure>
-    ensures { PrintsText 0 (exports_text (printer_of printer.entry) (site_of (λ content. content) site.now).content) result }
+    ensures { PrintsText 0 (exports_by json (printer_of printer.entry) (site_of (λ content. content) site.now).content) result }
 {
-    print_text(alloc, exports_text(alloc, site.view().policy(), printer))
+    print_text(
+        alloc,
+        exports_by(alloc, site.view().policy(), printer, json),
+    )
+}
+
+/// Writes all exports of a policy as one object on a line, if that is asked, and else as the printer says.
+fn exports_by(
+    alloc: Global,
+    policy: &Policy,
+    printer: Printer<'_>,
+    json: bool,
+) -> Result<String, AllocError>
+    ensures { IfOk result (λ text. string_bytes text ≡ exports_by json (printer_of printer.entry) policy.now) }
+{
+    if json {
+        line_of(alloc, exports_object(alloc, policy))
+    } else {
+        exports_text(alloc, policy, printer)
+    }
 }

@@ -1,5 +1,5 @@
 //! The commands that ask a database: `ask`, `show`, `exports` and `who` by the policy in force, `log`, `cat`, `proposal` and `files` by
-//! its files, and `impact` by what would be in force.
+//! its files, and `impact` by what would be in force. With `--json` each prints its answer as one object.
 
 ghost use Rattle.std.specs.Prelude.{◌≡◌, Some, false};
 ghost use Rattle.std.specs.Option.{option_map};
@@ -22,8 +22,8 @@ use desk_service::{FileQuestion, Question};
 use std::alloc::Global;
 use std::io::BufRead;
 
-/// Answers `ask DB HOST DIR [--as CRED]`, and `--why` or `--mountd`. The arguments are parsed from left to right, CRED without users and
-/// groups.
+/// Answers `ask DB HOST DIR [--as CRED] [--json]`, and `--why` or `--mountd`. The arguments are parsed from left to right, CRED without
+/// users and groups.
 pub fn run_ask(rt: &HostRuntime, words: &ArgMatches<'_>) -> Result<Printed, Failure>
     ensures { spec.AnswersAsk (rows_in words.now) result }
 {
@@ -44,11 +44,13 @@ fn ask_as(rt: &HostRuntime, words: &ArgMatches<'_>, asking: Asking) -> Result<Pr
     let address = read_host(alloc, host)?;
     let path = read_path(alloc, "DIR", dir)?;
     let own = read_credential(alloc, given(words, "as"), "", "")?;
+    let json = is_set(words, "json");
     let question = MountQuestion {
         address,
         path: &path,
         own: &own,
         asking,
+        json,
     };
     answer_question(rt, db, mounting(question))
 }
@@ -59,7 +61,8 @@ fn mounting<'a>(question: MountQuestion<'a>) -> Asked<'a>
 {
     Asked {
         question: asked_by(question),
-        printer: Printer::Mount(question),
+        printer: Printer::Mounts(question),
+        json: question.json,
     }
 }
 
@@ -74,37 +77,40 @@ fn asked_by<'a>(question: MountQuestion<'a>) -> Question<'a>
 }
 
 /// Returns a question on the whole site, which is printed so.
-fn of_site<'a>(printer: Printer<'a>) -> Asked<'a>
-    ensures { asked_of result ≡ spec.of_site (printer_of printer.entry) }
+fn of_site<'a>(printer: Printer<'a>, json: bool) -> Asked<'a>
+    ensures { asked_of result ≡ spec.of_site (printer_of printer.entry) json }
 {
     Asked {
         question: Question::Site,
         printer,
+        json,
     }
 }
 
-/// Answers `show DB HOST`.
+/// Answers `show DB HOST [--json]`.
 pub fn run_show(rt: &HostRuntime, words: &ArgMatches<'_>) -> Result<Printed, Failure>
     ensures { spec.AnswersShow (rows_in words.now) result }
 {
     let db = required(words, "DB")?;
     let host = required(words, "HOST")?;
     let address = read_host(rt.alloc(), host)?;
-    answer_question(rt, db, plainly(Question::Listing(address)))
+    let json = is_set(words, "json");
+    answer_question(rt, db, plainly(Question::Listing(address), json))
 }
 
-/// Answers `exports DB [--terms]`.
+/// Answers `exports DB [--terms] [--json]`.
 pub fn run_exports(rt: &HostRuntime, words: &ArgMatches<'_>) -> Result<Printed, Failure>
     ensures { spec.AnswersExports (rows_in words.now) result }
 {
     let db = required(words, "DB")?;
     let terms = is_set(words, "terms");
-    answer_question(rt, db, of_exports(terms))
+    let json = is_set(words, "json");
+    answer_question(rt, db, of_exports(terms, json))
 }
 
-/// Returns a question on all exports, which are printed with their terms or without.
-fn of_exports<'a>(terms: bool) -> Asked<'a>
-    ensures { asked_of result ≡ spec.of_exports terms }
+/// Returns a question on all exports, which are printed with their terms or without, or as one object.
+fn of_exports<'a>(terms: bool, json: bool) -> Asked<'a>
+    ensures { asked_of result ≡ spec.of_exports terms json }
 {
     Asked {
         question: Question::Exports,
@@ -113,10 +119,11 @@ fn of_exports<'a>(terms: bool) -> Asked<'a>
         } else {
             Printer::Plain
         },
+        json,
     }
 }
 
-/// Answers `who DB DIR [--mountd]`.
+/// Answers `who DB DIR [--mountd] [--json]`.
 pub fn run_who(rt: &HostRuntime, words: &ArgMatches<'_>) -> Result<Printed, Failure>
     ensures { spec.AnswersWho (rows_in words.now) result }
 {
@@ -124,10 +131,11 @@ pub fn run_who(rt: &HostRuntime, words: &ArgMatches<'_>) -> Result<Printed, Fail
     let dir = required(words, "DIR")?;
     let path = read_path(rt.alloc(), "DIR", dir)?;
     let mountd = is_set(words, "mountd");
-    answer_question(rt, db, of_site(Printer::Ranges(&path, mountd)))
+    let json = is_set(words, "json");
+    answer_question(rt, db, of_site(Printer::Ranges(&path, mountd), json))
 }
 
-/// Answers `log DB NAME` or `proposal DB NAME`: what is asked of a file by its name alone.
+/// Answers `log DB NAME [--json]` or `proposal DB NAME [--json]`: what is asked of a file by its name alone.
 pub fn run_of_file(
     rt: &HostRuntime,
     words: &ArgMatches<'_>,
@@ -137,17 +145,19 @@ pub fn run_of_file(
 {
     let db = required(words, "DB")?;
     let name = required(words, "NAME")?;
-    answer_question(rt, db, plainly(Question::OfFile(name, what)))
+    let json = is_set(words, "json");
+    answer_question(rt, db, plainly(Question::OfFile(name, what), json))
 }
 
-/// Answers `cat DB NAME [--rev N]`.
+/// Answers `cat DB NAME [--rev N] [--json]`.
 pub fn run_cat(rt: &HostRuntime, words: &ArgMatches<'_>) -> Result<Printed, Failure>
     ensures { spec.AnswersCat (rows_in words.now) result }
 {
     let db = required(words, "DB")?;
     let name = required(words, "NAME")?;
     let rev = read_revision(rt.alloc(), given(words, "rev"))?;
-    answer_question(rt, db, plainly(Question::Text(name, rev)))
+    let json = is_set(words, "json");
+    answer_question(rt, db, plainly(Question::Text(name, rev), json))
 }
 
 /// Parses the number of a revision, if it is given.
@@ -160,25 +170,27 @@ fn read_revision(alloc: Global, word: Option<&str>) -> Result<Option<u32>, Failu
     }
 }
 
-/// Answers `files DB`.
+/// Answers `files DB [--json]`.
 pub fn run_files(rt: &HostRuntime, words: &ArgMatches<'_>) -> Result<Printed, Failure>
     ensures { spec.AnswersFiles (rows_in words.now) result }
 {
     let db = required(words, "DB")?;
-    answer_question(rt, db, plainly(Question::Files))
+    let json = is_set(words, "json");
+    answer_question(rt, db, plainly(Question::Files, json))
 }
 
-/// Returns a question whose answer is printed as it is.
-fn plainly<'a>(question: Question<'a>) -> Asked<'a>
-    ensures { asked_of result ≡ spec.plainly (question_of question.entry) }
+/// Returns a question whose answer is printed as it is, or as one object.
+fn plainly<'a>(question: Question<'a>, json: bool) -> Asked<'a>
+    ensures { asked_of result ≡ spec.plainly (question_of question.entry) json }
 {
     Asked {
         question,
         printer: Printer::Plain,
+        json,
     }
 }
 
-/// Answers `impact DB NAME FILE [--all]`, or with `--proposal` in the place of FILE.
+/// Answers `impact DB NAME FILE [--all] [--json]`, or with `--proposal` in the place of FILE.
 pub fn run_impact<I: BufRead>(
     rt: &HostRuntime,
     words: &ArgMatches<'_>,
@@ -189,9 +201,10 @@ pub fn run_impact<I: BufRead>(
     let db = required(words, "DB")?;
     let name = required(words, "NAME")?;
     let all = is_set(words, "all");
+    let json = is_set(words, "json");
     let file = given(words, "FILE");
     let is_proposal = is_set(words, "proposal");
-    foresee(rt, db, name, all, file, is_proposal, input)
+    foresee(rt, db, name, all, json, file, is_proposal, input)
 }
 
 /// Answers `impact` by FILE or by the proposal, one of which is to be given.
@@ -200,19 +213,20 @@ fn foresee<I: BufRead>(
     db: &str,
     name: &str,
     all: bool,
+    json: bool,
     file: Option<&str>,
     is_proposal: bool,
     input: &mut I,
 ) -> Result<Printed, Failure>
-    ensures { spec.AnswersImpactBy db.now name.now all (option_map (λ word. word.now) file.entry) is_proposal (I.remaining input.old) result }
+    ensures { spec.AnswersImpactBy db.now name.now all json (option_map (λ word. word.now) file.entry) is_proposal (I.remaining input.old) result }
 {
     match (file, is_proposal) {
         (Some(_), true) => Err(Failure::BesideProposal),
-        (Some(file), false) => foresee_file(rt, db, name, file, all, input),
+        (Some(file), false) => foresee_file(rt, db, name, file, all, json, input),
         (None, true) => answer_question(
             rt,
             db,
-            changes(Question::ForeseeProposal(name), None, all),
+            changes(Question::ForeseeProposal(name), None, all, json),
         ),
         (None, false) => Err(Failure::of_missing("FILE")),
     }
@@ -225,22 +239,24 @@ fn foresee_file<I: BufRead>(
     name: &str,
     file: &str,
     all: bool,
+    json: bool,
     input: &mut I,
 ) -> Result<Printed, Failure>
-    ensures { spec.AnswersImpactBy db.now name.now all (Some file.now) false (I.remaining input.old) result }
+    ensures { spec.AnswersImpactBy db.now name.now all json (Some file.now) false (I.remaining input.old) result }
 {
     let text = read_if_given(rt, "FILE", Some(file), input)?;
     let question = Question::Foresee(name, text.as_str());
-    answer_question(rt, db, changes(question, Some(file), all))
+    answer_question(rt, db, changes(question, Some(file), all, json))
 }
 
 /// Returns a question on what would change by the text of the file that this word names, or by a proposal, with the changes that matter
 /// to no client or without.
-fn changes<'a>(question: Question<'a>, file: Option<&'a str>, all: bool) -> Asked<'a>
-    ensures { asked_of result ≡ spec.changes (question_of question.entry) all }
+fn changes<'a>(question: Question<'a>, file: Option<&'a str>, all: bool, json: bool) -> Asked<'a>
+    ensures { asked_of result ≡ spec.changes (question_of question.entry) all json }
 {
     Asked {
         question,
         printer: Printer::Changes(file, all),
+        json,
     }
 }

@@ -25,11 +25,11 @@ pub fn run_report(rt: &HostRuntime, words: &ArgMatches<'_>) -> Result<Printed, F
     ensures { AnswersReport (rows_in words.now) result }
 {
     let db = required(words, "DB")?;
-    answer_on(rt, db)
+    report_on_copy(rt, db)
 }
 
 /// Answers by the database at a path.
-fn answer_on(rt: &HostRuntime, db: &str) -> Result<Printed, Failure>
+fn report_on_copy(rt: &HostRuntime, db: &str) -> Result<Printed, Failure>
     ensures { AnswersOn db.now result }
 {
     match open_copied_desk(rt, db) {

@@ -1,4 +1,4 @@
-pub mod Kept
+pub mod KeptEdits
 pub mod Limits
 pub mod Loopback
 pub mod PrivateLimits

@@ -6,7 +6,7 @@
 #![tactic(auto)]
 
 mod clock;
-pub mod kept;
+pub mod kept_edits;
 pub mod limits;
 pub mod loopback;
 mod notes;

@@ -6,7 +6,7 @@ ghost use Rattle.desk_http_messages.specs.Stream.{Message};
 ghost use Rattle.desk_http.specs.Answering.{Serves};
 
 use crate::clock::Clock;
-use crate::kept::is_kept;
+use crate::kept_edits::is_kept;
 use crate::limits::{Phase, begun, end_of, has_come, with_bytes};
 use crate::refusals::is_refusal;
 use crate::socket::Socket;

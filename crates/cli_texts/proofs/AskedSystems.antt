@@ -1,5 +1,5 @@
 -- What comes after the file systems of which a command is asked.
-use Rattle.std.proofs.Common.{◌≡◌, ℕ, List, Option, Result, Ok, Err, refl, subst}
+use Rattle.std.proofs.Common.{◌≡◌, ℕ, Bool, List, Option, Result, Ok, Err, refl, subst}
 use Rattle.clap.specs.Words.{Row}
 use Rattle.desk_tables.specs.declared.filesystems.Mount.{Mount}
 use Rattle.cli_output.specs.declared.failure.Failure.{Failure}
@@ -7,13 +7,13 @@ use Rattle.cli_output.specs.declared.printed.Printed.{Printed}
 use Rattle.cli_texts.specs.Systems.{AfterSystems, LeavesSystems, ReadsSystems}
 use Rattle.cli_texts.specs.declared.subject.Subject.{Subject}
 
-module _ (subject : Subject) (rows : List Row) (others count : ℕ) (same : others ≡ count) (known left : Option (List ℕ)) (leaves : LeavesSystems subject rows known left)
+module _ (json : Bool) (subject : Subject) (rows : List Row) (others count : ℕ) (same : others ≡ count) (known left : Option (List ℕ)) (leaves : LeavesSystems subject rows known left)
     (Next : Option (List ℕ) → List Mount → Result Printed Failure → Type 0) where
-  counted : (read : Result (Result (List Mount) Printed) Failure) → ReadsSystems subject rows others known read → ReadsSystems subject rows count known read
-  counted read reads = subst (λ (n : ℕ). ReadsSystems subject rows n known read) same reads
+  counted : (read : Result (Result (List Mount) Printed) Failure) → ReadsSystems json subject rows others known read → ReadsSystems json subject rows count known read
+  counted read reads = subst (λ (n : ℕ). ReadsSystems json subject rows n known read) same reads
 
   -- they are there
-  pub with_table : (table : List Mount) (result : Result Printed Failure) → ReadsSystems subject rows others known (Ok (Ok table)) → Next left table result → AfterSystems subject rows count known Next result
+  pub with_table : (table : List Mount) (result : Result Printed Failure) → ReadsSystems json subject rows others known (Ok (Ok table)) → Next left table result → AfterSystems json subject rows count known Next result
   with_table table result reads next = record {
     left = left;
     leaves = leaves;
@@ -21,7 +21,7 @@ module _ (subject : Subject) (rows : List Row) (others count : ℕ) (same : othe
   }
 
   -- their text has a fault
-  pub with_fault : (printed : Printed) → ReadsSystems subject rows others known (Ok (Err printed)) → AfterSystems subject rows count known Next (Ok printed)
+  pub with_fault : (printed : Printed) → ReadsSystems json subject rows others known (Ok (Err printed)) → AfterSystems json subject rows count known Next (Ok printed)
   with_fault printed reads = record {
     left = left;
     leaves = leaves;
@@ -29,7 +29,7 @@ module _ (subject : Subject) (rows : List Row) (others count : ℕ) (same : othe
   }
 
   -- there are none
-  pub without : (failure : Failure) → ReadsSystems subject rows others known (Err failure) → AfterSystems subject rows count known Next (Err failure)
+  pub without : (failure : Failure) → ReadsSystems json subject rows others known (Err failure) → AfterSystems json subject rows count known Next (Err failure)
   without failure reads = record {
     left = left;
     leaves = leaves;

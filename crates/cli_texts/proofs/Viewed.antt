@@ -14,11 +14,6 @@ use Rattle.desk_findings.specs.CheckText.{tables_of}
 use Rattle.desk_findings.specs.declared.check_text.WholeSources.{WholeSources}
 use Rattle.cli_texts.specs.WholeTables.{GivesOrFault, Writes, policy_of, policy_with}
 
--- a fault of what is read without warnings is one of what is read with them
-pub faulty_read : (read : Result Content SiteFault) (fault : SiteFault) → without_warnings read ≡ Err fault → IsFaultOf read fault
-faulty_read (Ok content) fault is = cc
-faulty_read (Err first) fault is = cc
-
 least_too : (law : WarningsChangeNoAnswer) (read : Result Content SiteFault) (policy : Content) (fault : SiteFault) → without_warnings read ≡ Ok policy → IsLeastContradiction policy fault → IsFaultOf read fault
 least_too law (Ok content) policy fault is least =
     let same : policy ≡ with_warnings content [] = cc in
@@ -32,7 +27,7 @@ viewed law in_force read policy (Ok view) is builds =
 viewed law in_force read policy (Err (Fault fault)) is least = least_too law read policy fault is least
 viewed law in_force read policy (Err Memory) is builds = tt
 
--- what is read of these texts, by their tables, which were read before, and a copy of the file systems
+-- what is read of these texts, by their tables, which were read before, and the same file systems
 pub read_known : (sources : WholeSources) (table own : List Mount) (tables : SiteTables) → tables_of sources.tables ≡ Ok tables → own ≡ table → policy_of sources table ≡ read_whole_with Two tables own sources.exports.text.now
 read_known sources table own tables known same =
     ap (λ (read : Result SiteTables SiteFault). policy_with read table sources.exports.text.now) known

@@ -1,5 +1,5 @@
 -- What `check` prints, by its words and files. (this project's own)
-use Rattle.std.specs.Prelude.{◌≡◌, ◌≢◌, ◌++◌, ℕ, Bool, List, [], ◌∷◌, Option, Some, None, Result, Ok, Err, IsErrAnd, MatchResult, codes, if◌then◌else◌}
+use Rattle.std.specs.Prelude.{◌≡◌, ◌≢◌, ◌++◌, ℕ, Bool, false, List, [], ◌∷◌, Option, Some, None, Result, Ok, Err, IsErrAnd, MatchResult, codes, if◌then◌else◌}
 use Rattle.std.specs.Option.{option_map}
 use Rattle.std.specs.String.{string_bytes}
 use Rattle.clap.specs.Words.{Row, first_of}
@@ -12,8 +12,9 @@ use Rattle.desk_findings.specs.declared.check_text.WholeSources.{WholeSources}
 use Rattle.desk_check.specs.declared.check_report.Checked.{Checked}
 use Rattle.cli_output.specs.Printed.{Prints}
 use Rattle.cli_output.specs.declared.failure.Failure.{Failure}
-use Rattle.cli_output.specs.declared.failure.Failure.TheVariants.{BesideSarif, Memory}
+use Rattle.cli_output.specs.declared.failure.Failure.TheVariants.{Memory}
 use Rattle.cli_output.specs.declared.printed.Printed.{Printed}
+use Rattle.cli_expectations.specs.ReportForm.{IsBesideSarif}
 use Rattle.cli_files.specs.Files.{HasText, LacksText}
 use Rattle.cli_files.specs.FolderSystems.{LeavesBehind, ReadsSystems}
 use Rattle.cli_files.specs.declared.folder_systems.FolderSystems.{FolderSystems}
@@ -68,7 +69,7 @@ AnswersByFiles rows ignored files known table result = After (ReadsSources whole
 
 -- the answer about a file: MOUNT or `--mounts` has to be given
 abbrev pub AnswersGiven : Subject → List Row → Option (List ℕ) → List (List ℕ × Option (List ℕ)) → Option (List ℕ) → Result Printed Failure → Type 0
-AnswersGiven subject rows ignored files known result = AfterSystems subject rows (input_count files) known (λ left. AnswersByFiles rows ignored files left) result
+AnswersGiven subject rows ignored files known result = AfterSystems false subject rows (input_count files) known (λ left. AnswersByFiles rows ignored files left) result
 
 -- the answer by the texts of a folder, with opinions or without
 abbrev pub AnswersFolderTexts : CheckAsked → Systems → WholeSources → Result Printed Failure → Type 0
@@ -138,11 +139,6 @@ beside_sarif rows =
     if is_set (codes "sarif") rows
     then if is_set (codes "brief") rows then Some (codes "--brief") else if is_set (codes "json") rows then Some (codes "--json") else None
     else None
-
--- the failure names an option that cannot be given with `--sarif`
-abbrev pub IsBesideSarif : List ℕ → Failure → Type 0
-IsBesideSarif option (BesideSarif name) = name.now ≡ option
-IsBesideSarif option failure = ⊥
 
 -- the same: which warnings are ignored is read first
 abbrev pub AnswersHeard : List Row → Option (List ℕ) → Result Printed Failure → Type 0

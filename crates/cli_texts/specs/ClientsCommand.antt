@@ -14,36 +14,30 @@ use Rattle.cli_verdict.specs.Ranges.{PrintsRanges}
 use Rattle.cli_words.specs.Words.{After, AnswersBy, is_set}
 use Rattle.cli_texts.specs.FaultyTexts.{AnswersOrFault}
 use Rattle.cli_texts.specs.Subject.{ReadsSubject, places, word_at}
-use Rattle.cli_texts.specs.Systems.{AfterSystems}
-use Rattle.cli_texts.specs.TableFiles.{ReadsSources, input_count}
 use Rattle.cli_texts.specs.declared.subject.Subject.{Subject}
-use Rattle.cli_texts.specs.WholeFiles.{whole_files, whole_list}
+use Rattle.cli_texts.specs.WholeQuestion.{AnswersWhole}
 use Rattle.cli_texts.specs.WholeTables.{Writes, policy_of}
 
--- the ranges that a path has under the policy that an exports text is read as are printed, by the rule of mountd(8) if that is asked
-pub record PrintsClients (read : Result Content SiteFault) (mountd : Bool) (path : List (List ℕ)) (printed : Printed) : Type 0 where
+-- The ranges that a path has under the policy that an exports text is read as are printed, by the rule of mountd(8) if that is asked, and
+-- as JSON if that is asked.
+pub record PrintsClients (read : Result Content SiteFault) (mountd json : Bool) (path : List (List ℕ)) (printed : Printed) : Type 0 where
   pub policy : Content
   pub written : Writes read policy
-  pub prints : PrintsRanges mountd policy path printed
+  pub prints : PrintsRanges mountd json policy path printed
 
 -- the answer about a path by the texts of the files
-abbrev pub AnswersPath : Bool → List (List ℕ) → List Mount → WholeSources → Result Printed Failure → Type 0
-AnswersPath mountd path table sources result = AnswersOrFault (PrintsClients (policy_of sources table) mountd path) sources table result
+abbrev pub AnswersPath : Bool → Bool → List (List ℕ) → List Mount → WholeSources → Result Printed Failure → Type 0
+AnswersPath mountd json path table sources result = AnswersOrFault json (PrintsClients (policy_of sources table) mountd json path) sources table result
 
 -- the path that DIR writes, or why it writes none; with `--site` it is the first word
 abbrev pub ReadsDir : Subject → List Row → Result (List (List ℕ)) Failure → Type 0
 ReadsDir subject rows result =
     AnswersBy (codes "DIR") (word_at subject (codes "FILE") (codes "DIR") rows) (λ dir. AnswersArgument (λ path. path) fault.Path (codes "DIR") dir (read_path dir)) result
 
--- the answer about a path with these file systems: the files are read after them
-abbrev pub AnswersFiles : Bool → List (List ℕ × Option (List ℕ)) → Option (List ℕ) → List (List ℕ) → List Mount → Result Printed Failure → Type 0
-AnswersFiles mountd files known path table result = After (ReadsSources whole_list files known) (AnswersPath mountd path table) result
-
--- the answer about a path
+-- the answer about a path: all files are read after it
 abbrev pub AnswersDir : List Row → Option (List ℕ) → Subject → List (List ℕ) → Result Printed Failure → Type 0
 AnswersDir rows known subject path result =
-    AfterSystems subject rows (input_count (whole_files subject (codes "FILE") rows)) known
-    (λ left. AnswersFiles (is_set (codes "mountd") rows) (whole_files subject (codes "FILE") rows) left path) result
+    let json = is_set (codes "json") rows in AnswersWhole (AnswersPath (is_set (codes "mountd") rows) json path) json rows known subject result
 
 -- the answer about what is asked of
 abbrev pub AnswersSubject : List Row → Option (List ℕ) → Subject → Result Printed Failure → Type 0

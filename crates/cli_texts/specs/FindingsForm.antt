@@ -4,7 +4,7 @@ use Rattle.std.specs.String.{string_bytes}
 use Rattle.desk_findings.specs.declared.check_text.Gathered.{Gathered}
 use Rattle.desk_findings.specs.declared.finding.Finding.{Finding}
 use Rattle.desk_check.specs.CheckReport.{passes, printed_findings, printed_rest}
-use Rattle.desk_check.specs.Ignored.{heard, ignored_count}
+use Rattle.desk_check.specs.IgnoredWarnings.{heard, ignored_count}
 use Rattle.desk_check.specs.declared.check_report.Checked.{Checked}
 use Rattle.desk_sarif.specs.Sarif.{findings_sarif}
 use Rattle.cli_texts.specs.declared.findings_form.FindingsForm.{FindingsForm}

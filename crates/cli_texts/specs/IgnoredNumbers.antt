@@ -1,6 +1,6 @@
 -- The numbers of the warnings that `check` ignores. (this project's own)
 use Rattle.std.specs.Prelude.{◌≡◌, ℕ, Bool, true, false, List, Option, Some, None, Result, Ok, Err, codes}
-use Rattle.desk_check.specs.Ignored.{are_warnings, numbers_in}
+use Rattle.desk_check.specs.IgnoredWarnings.{are_warnings, numbers_in}
 use Rattle.cli_output.specs.Failure.{IsRefusal}
 use Rattle.cli_output.specs.declared.bad_argument.ArgumentFault.TheVariants as fault
 use Rattle.cli_output.specs.declared.failure.Failure.{Failure}

@@ -18,5 +18,7 @@ pub mod TermsCommand
 pub mod TestCommand
 pub mod TryCommand
 pub mod TwoFiles
+pub mod TwoQuestion
 pub mod WholeFiles
+pub mod WholeQuestion
 pub mod WholeTables

@@ -1,5 +1,5 @@
 -- What `lists` prints, by its words and files. (this project's own)
-use Rattle.std.specs.Prelude.{ℕ, List, Option, Result, codes}
+use Rattle.std.specs.Prelude.{ℕ, false, List, Option, Result, codes}
 use Rattle.clap.specs.Words.{Row}
 use Rattle.desk_text.specs.Address.{number_of, read_addr}
 use Rattle.desk_text.specs.declared.address.Addr.{Addr}
@@ -17,10 +17,8 @@ use Rattle.cli_words.specs.Words.{After, AnswersBy}
 use Rattle.cli_texts.specs.FaultyTexts.{AnswersOrFault}
 use Rattle.cli_texts.specs.Printing.{PrintsAlone}
 use Rattle.cli_texts.specs.Subject.{ReadsSubject, places, word_at}
-use Rattle.cli_texts.specs.Systems.{AfterSystems}
-use Rattle.cli_texts.specs.TableFiles.{ReadsSources, input_count}
 use Rattle.cli_texts.specs.declared.subject.Subject.{Subject}
-use Rattle.cli_texts.specs.WholeFiles.{whole_files, whole_list}
+use Rattle.cli_texts.specs.WholeQuestion.{AnswersWhole}
 use Rattle.cli_texts.specs.WholeTables.{Writes, policy_of}
 
 -- the listing of a client by the policy that an exports text is read as is printed, with the status 0, and standard error says nothing
@@ -31,7 +29,7 @@ pub record PrintsListing (read : Result Content SiteFault) (address : ℕ) (prin
 
 -- the answer about a client by the texts of the files
 abbrev pub AnswersHost : ℕ → List Mount → WholeSources → Result Printed Failure → Type 0
-AnswersHost address table sources result = AnswersOrFault (PrintsListing (policy_of sources table) address) sources table result
+AnswersHost address table sources result = AnswersOrFault false (PrintsListing (policy_of sources table) address) sources table result
 
 -- the address that HOST writes, or why it writes none; with `--site` it is the first word
 abbrev pub ReadsHost : Subject → List Row → Result Addr Failure → Type 0
@@ -39,15 +37,9 @@ ReadsHost subject rows result =
     AnswersBy (codes "HOST") (word_at subject (codes "FILE") (codes "HOST") rows)
     (λ host. AnswersArgument number_of fault.Address (codes "HOST") host (read_addr host)) result
 
--- the answer about a client with these file systems: the files are read after them
-abbrev pub AnswersFiles : ℕ → List (List ℕ × Option (List ℕ)) → Option (List ℕ) → List Mount → Result Printed Failure → Type 0
-AnswersFiles address files known table result = After (ReadsSources whole_list files known) (AnswersHost address table) result
-
--- the answer about a client
+-- the answer about a client: all files are read after its address
 abbrev pub AnswersClient : List Row → Option (List ℕ) → Subject → Addr → Result Printed Failure → Type 0
-AnswersClient rows known subject address result =
-    AfterSystems subject rows (input_count (whole_files subject (codes "FILE") rows)) known
-    (λ left. AnswersFiles (number_of address) (whole_files subject (codes "FILE") rows) left) result
+AnswersClient rows known subject address result = AnswersWhole (AnswersHost (number_of address)) false rows known subject result
 
 -- the answer about what is asked of
 abbrev pub AnswersSubject : List Row → Option (List ℕ) → Subject → Result Printed Failure → Type 0

@@ -9,9 +9,8 @@ use Rattle.desk_mounts.specs.Reading.{read_mounts}
 use Rattle.desk_split.specs.SplitFault.{split_fault_line}
 use Rattle.desk_split.specs.declared.split_fault.SplitFault.TheVariants.{FileSystems}
 use Rattle.desk_findings.specs.declared.check_faults.Source.{Source}
-use Rattle.desk_check.specs.ToldFault.{TellsOfSplit}
+use Rattle.desk_check.specs.ToldFault.{ListsSplitFault, TellsOfSplit}
 use Rattle.cli_output.specs.Failure.{IsMissing}
-use Rattle.cli_output.specs.Printed.{Prints}
 use Rattle.cli_output.specs.declared.failure.Failure.{Failure}
 use Rattle.cli_output.specs.declared.failure.Failure.TheVariants.{BesideMounts, InputTwice, Memory}
 use Rattle.cli_output.specs.declared.printed.Printed.{Printed}
@@ -55,34 +54,40 @@ ReadsByWords (Some mounts) None others known result = ReadsTable mounts result
 ReadsByWords None (Some file) others known result = ReadsMountsFile file others known result
 ReadsByWords None None others known result = IsMissingMount result
 
--- the fault of a text of file systems is printed in a line, and standard error shows it as `check` does
-pub record PrintsSystemsFault (source : Source) (fault : TableFault) (printed : Printed) : Type 0 where
-  pub prints : Prints 3 (split_fault_line (FileSystems fault) ++ 10 ∷ []) printed
+-- the fault of a text of file systems in a line; or, if JSON is asked, the list that has its finding alone, as `check --json` prints it
+abbrev pub TellsSystemsFault : Bool → Source → TableFault → List ℕ → Type 0
+TellsSystemsFault false source fault text = text ≡ split_fault_line (FileSystems fault) ++ 10 ∷ []
+TellsSystemsFault true source fault text = ListsSplitFault source source (FileSystems fault) text
+
+-- it is printed so, and standard error shows it as `check` does
+pub record PrintsSystemsFault (json : Bool) (source : Source) (fault : TableFault) (printed : Printed) : Type 0 where
+  pub status_is : printed.status ≡ 3
+  pub tells : TellsSystemsFault json source fault (string_bytes printed.text)
   pub shows : TellsOfSplit source source (FileSystems fault) (string_bytes printed.note)
 
 -- the file systems that a text of them is read as, or its fault as it is printed
-abbrev pub AnswersText : Source → Result (List Mount) TableFault → Result (List Mount) Printed → Type 0
-AnswersText source (Ok table) (Ok made) = made ≡ table
-AnswersText source (Ok table) (Err printed) = ⊥
-AnswersText source (Err fault) (Ok made) = ⊥
-AnswersText source (Err fault) (Err printed) = PrintsSystemsFault source fault printed
+abbrev pub AnswersText : Bool → Source → Result (List Mount) TableFault → Result (List Mount) Printed → Type 0
+AnswersText json source (Ok table) (Ok made) = made ≡ table
+AnswersText json source (Ok table) (Err printed) = ⊥
+AnswersText json source (Err fault) (Ok made) = ⊥
+AnswersText json source (Err fault) (Err printed) = PrintsSystemsFault json source fault printed
 
 -- the paths of the two files of a folder that list its file systems
 abbrev pub files_of : SiteFolder → SystemsPaths
 files_of folder = systems_at (string_bytes folder.paths.filesystems) (string_bytes folder.mounts)
 
 -- the file systems of the text in a folder's file filesystems
-pub record AnswersListed (path : List ℕ) (result : Result (List Mount) Printed) : Type 0 where
+pub record AnswersListed (json : Bool) (path : List ℕ) (result : Result (List Mount) Printed) : Type 0 where
   pub source : Source
   pub at : source.path.now ≡ path
   pub has_text : HasText (codes "--site") path None source.text.now
-  pub answers : AnswersText source (read_filesystems source.text.now) result
+  pub answers : AnswersText json source (read_filesystems source.text.now) result
 
 -- the file systems of a folder: of its file filesystems, or of mounts; or why it has neither. Out of memory says nothing.
-abbrev pub ReadsFolder : SiteFolder → Result (Result (List Mount) Printed) Failure → Type 0
-ReadsFolder folder (Ok (Ok table)) = AnswersListed (files_of folder).filesystems (Ok table) ⊎ AnswersMountsFile (codes "--site") (files_of folder).mounts (Ok table)
-ReadsFolder folder (Ok (Err printed)) = AnswersListed (files_of folder).filesystems (Err printed)
-ReadsFolder folder (Err failure) =
+abbrev pub ReadsFolder : Bool → SiteFolder → Result (Result (List Mount) Printed) Failure → Type 0
+ReadsFolder json folder (Ok (Ok table)) = AnswersListed json (files_of folder).filesystems (Ok table) ⊎ AnswersMountsFile (codes "--site") (files_of folder).mounts (Ok table)
+ReadsFolder json folder (Ok (Err printed)) = AnswersListed json (files_of folder).filesystems (Err printed)
+ReadsFolder json folder (Err failure) =
     LacksText (codes "--site") (files_of folder).filesystems None failure
     ⊎ (LacksText (codes "--site") (files_of folder).mounts None failure ⊎ (AnswersMountsFile (codes "--site") (files_of folder).mounts (Err failure) ⊎ (failure ≡ Memory)))
 
@@ -92,10 +97,10 @@ GivesTable Reads (Ok (Ok table)) = Reads (Ok table)
 GivesTable Reads (Ok (Err printed)) = ⊥
 GivesTable Reads (Err failure) = Reads (Err failure)
 
--- the file systems of which a command is asked, or the fault of their text as it is printed
-abbrev pub ReadsSystems : Subject → List Row → ℕ → Option (List ℕ) → Result (Result (List Mount) Printed) Failure → Type 0
-ReadsSystems (File file) rows others known result = GivesTable (ReadsByWords (all_of (codes "MOUNT") rows) (first_of (codes "mounts") rows) others known) result
-ReadsSystems (Site folder) rows others known result = ReadsFolder folder result
+-- the file systems of which a command is asked, or the fault of their text as it is printed, as JSON if that is asked
+abbrev pub ReadsSystems : Bool → Subject → List Row → ℕ → Option (List ℕ) → Result (Result (List Mount) Printed) Failure → Type 0
+ReadsSystems json (File file) rows others known result = GivesTable (ReadsByWords (all_of (codes "MOUNT") rows) (first_of (codes "mounts") rows) others known) result
+ReadsSystems json (Site folder) rows others known result = ReadsFolder json folder result
 
 -- what that leaves of the input
 abbrev pub LeavesSystems : Subject → List Row → Option (List ℕ) → Option (List ℕ) → Type 0
@@ -108,7 +113,7 @@ ContinuesWith Next (Ok table) result = Next table result
 ContinuesWith Next (Err printed) result = result ≡ Ok printed
 
 -- The file systems come first, with so many other files that are standard input; and then the rest, with what is left of the input.
-pub record AfterSystems (subject : Subject) (rows : List Row) (others : ℕ) (known : Option (List ℕ)) (Next : Option (List ℕ) → List Mount → Result Printed Failure → Type 0) (result : Result Printed Failure) : Type 0 where
+pub record AfterSystems (json : Bool) (subject : Subject) (rows : List Row) (others : ℕ) (known : Option (List ℕ)) (Next : Option (List ℕ) → List Mount → Result Printed Failure → Type 0) (result : Result Printed Failure) : Type 0 where
   pub left : Option (List ℕ)
   pub leaves : LeavesSystems subject rows known left
-  pub after : After (ReadsSystems subject rows others known) (ContinuesWith (Next left)) result
+  pub after : After (ReadsSystems json subject rows others known) (ContinuesWith (Next left)) result

@@ -148,7 +148,7 @@ fn check_given<I: BufRead>(
     ensures { AnswersGiven subject.now (rows_in words.now) (option_map (λ numbers. numbers.now) ignored.entry) (map named (file_list files.entry)) (I.remaining input.old) result }
 {
     let others = whole_inputs(files);
-    let systems = read_systems(rt, words, subject, others, input)?;
+    let systems = read_systems(rt, false, words, subject, others, input)?;
     match systems {
         Ok(filesystems) => check_files(rt, words, ignored, filesystems, files, input),
         Err(printed) => Ok(printed),

@@ -1,18 +1,14 @@
 //! The command `clients`: who may mount a directory, by an exports text.
 
-ghost use Rattle.std.specs.Prelude.{codes, map};
 ghost use Rattle.desk_text.specs.Lines.{IsReadable};
 ghost use Rattle.desk_findings.specs.CheckFaults.{AreReadable};
-ghost use Rattle.cli_words.specs.Words.{is_set, rows_in};
-ghost use Rattle.cli_texts.specs.ClientsCommand.{AnswersClients, AnswersFiles, AnswersPath, AnswersSubject, PrintsClients, ReadsDir};
-ghost use Rattle.cli_texts.specs.TableFiles.{named};
-ghost use Rattle.cli_texts.specs.WholeFiles.{file_list};
+ghost use Rattle.cli_words.specs.Words.{rows_in};
+ghost use Rattle.cli_texts.specs.ClientsCommand.{AnswersClients, AnswersPath, AnswersSubject, PrintsClients, ReadsDir};
 ghost use Rattle.cli_texts.specs.WholeTables.{GivesOrFault, policy_of};
 
 use crate::faulty_texts::answer_error;
 use crate::subject::{Places, Subject, subject_of, word_of};
-use crate::systems::read_systems;
-use crate::whole_files::{WholeFiles, read_whole_texts, whole_files, whole_inputs, whole_sources};
+use crate::whole_question::{WholeQuestion, answer_whole};
 use crate::whole_tables::view_of;
 use clap::ArgMatches;
 use cli_output::failure::Failure;
@@ -57,30 +53,36 @@ fn answer_subject<'w, I: BufRead>(
     ensures { AnswersSubject (rows_in words.now) (I.remaining input.old) subject.now result }
 {
     let path = read_dir(rt.alloc(), words, subject)?;
-    let files = whole_files(words, subject, "FILE");
-    let others = whole_inputs(files);
-    let systems = read_systems(rt, words, subject, others, input)?;
-    match systems {
-        Ok(filesystems) => answer_files(rt, words, &path, &filesystems, files, input),
-        Err(printed) => Ok(printed),
-    }
+    let question = ClientsQuestion {
+        path: &path,
+        mountd: is_set(words, "mountd"),
+        json: is_set(words, "json"),
+    };
+    answer_whole(rt, question.json, words, subject, &question, input)
 }
 
-/// Answers by these file systems and files.
-fn answer_files<I: BufRead>(
-    rt: &HostRuntime,
-    words: &ArgMatches<'_>,
-    path: &Path,
-    filesystems: &FileSystems,
-    files: WholeFiles<'_>,
-    input: &mut I,
-) -> Result<Printed, Failure>
-    ensures { AnswersFiles (is_set (codes "mountd") (rows_in words.now)) (map named (file_list files.entry)) (I.remaining input.old) path.now filesystems.now result }
-{
-    let texts = read_whole_texts(rt, files, input)?;
-    let sources = whole_sources(files, &texts);
-    let mountd = is_set(words, "mountd");
-    answer_path(rt.alloc(), mountd, path, filesystems, sources)
+/// Who may mount a path, by the rule of mountd(8) if that is asked, and as JSON if that is asked.
+#[derive(Clone, Copy)]
+struct ClientsQuestion<'a> {
+    path: &'a Path,
+    mountd: bool,
+    json: bool,
+}
+
+impl WholeQuestion for ClientsQuestion<'_> {
+    ghost Answers = { λ question. AnswersPath question.mountd question.json question.path.now };
+
+    fn answer(
+        &self,
+        alloc: Global,
+        filesystems: &FileSystems,
+        sources: WholeSources<'_>,
+    ) -> Result<Printed, Failure> {
+        match list_clients(alloc, *self, filesystems, sources) {
+            Ok(printed) => Ok(printed),
+            Err(error) => answer_error(alloc, self.json, sources, filesystems, error),
+        }
+    }
 }
 
 /// Parses the word DIR.
@@ -91,38 +93,19 @@ fn read_dir(alloc: Global, words: &ArgMatches<'_>, subject: &Subject<'_>) -> Res
     read_path(alloc, "DIR", dir)
 }
 
-/// Answers about a path by the texts of the files.
-fn answer_path(
-    alloc: Global,
-    mountd: bool,
-    path: &Path,
-    filesystems: &FileSystems,
-    sources: WholeSources<'_>,
-) -> Result<Printed, Failure>
-    requires tables { AreReadable sources.tables }
-    requires exports { IsReadable sources.exports.text.now }
-    ensures { AnswersPath mountd path.now filesystems.now sources.entry result }
-{
-    match list_clients(alloc, mountd, path, filesystems, sources) {
-        Ok(printed) => Ok(printed),
-        Err(error) => answer_error(alloc, sources, filesystems, error),
-    }
-}
-
-/// Prints who may mount a path by these texts, by the rule of mountd(8) if that is asked.
+/// Prints who may mount a path by these texts.
 fn list_clients(
     alloc: Global,
-    mountd: bool,
-    path: &Path,
+    question: ClientsQuestion<'_>,
     filesystems: &FileSystems,
     sources: WholeSources<'_>,
 ) -> Result<Printed, ReadError<SiteFault>>
     requires tables { AreReadable sources.tables }
     requires exports { IsReadable sources.exports.text.now }
-    ensures { let read = policy_of sources.entry filesystems.now in GivesOrFault (PrintsClients read mountd path.now) read result }
+    ensures { let read = policy_of sources.entry filesystems.now in GivesOrFault (PrintsClients read question.entry.mountd question.entry.json question.entry.path.now) read result }
 {
     let tables = read_sources(alloc, sources.tables)?;
     let view = view_of(alloc, sources, &tables, filesystems)?;
-    let printed = print_ranges(alloc, &view, path, mountd)?;
+    let printed = print_ranges(alloc, &view, question.path, question.mountd, question.json)?;
     Ok(printed)
 }

@@ -1,36 +1,35 @@
 //! The command `compare`: what changes from one exports text to another, of every directory and for every client.
 
-ghost use Rattle.std.specs.Prelude.{◌≡◌, Ok, codes, map};
+ghost use Rattle.std.specs.Prelude.{◌≡◌, IfOk, Ok};
+ghost use Rattle.std.specs.String.{string_bytes};
 ghost use Rattle.desk_text.specs.Lines.{IsReadable};
 ghost use Rattle.desk_findings.specs.CheckFaults.{AreReadable};
 ghost use Rattle.desk_findings.specs.CheckText.{tables_of};
-ghost use Rattle.cli_words.specs.Words.{is_set, rows_in};
-ghost use Rattle.cli_texts.specs.CompareCommand.{AnswersCompare, AnswersFiles, AnswersSubject, AnswersTexts, PrintsChanges};
-ghost use Rattle.cli_texts.specs.TableFiles.{named};
-ghost use Rattle.cli_texts.specs.TwoFiles.{file_list};
+ghost use Rattle.cli_words.specs.Words.{rows_in};
+ghost use Rattle.cli_texts.specs.CompareCommand.{AnswersCompare, AnswersTexts, PrintsChanges, TellsChanges, TellsList, TellsReport};
 ghost use Rattle.cli_texts.specs.FaultyTexts.{AnswersOrFault};
 ghost use Rattle.cli_texts.specs.WholeTables.{GivesOrFault, policy_of};
 
 use crate::View;
 use crate::faulty_texts::answer_error;
-use crate::subject::{Places, Subject, subject_of, word_of};
-use crate::systems::read_systems;
-use crate::table_files::TextFile;
-use crate::two_files::{TwoFiles, TwoSources, read_two_texts, two_inputs, two_sources};
-use crate::whole_files::whole_files;
+use crate::subject::{Places, subject_of};
+use crate::two_files::TwoSources;
+use crate::two_question::{TwoNames, TwoQuestion, answer_two};
 use crate::whole_tables::view_of;
 use clap::ArgMatches;
 use cli_output::failure::Failure;
 use cli_output::printed::Printed;
-use cli_output::shown::shown_lines;
+use cli_output::shown_lines::shown_lines;
+use cli_verdict::{changes_status, object_line};
 use cli_words::words::is_set;
 use desk_findings::{WholeSources, read_sources};
-use desk_impact::impact_report;
-use desk_policy::{SiteFault, SiteTables};
+use desk_impact::{impact_report, list_changes};
+use desk_json::changes_object;
+use desk_policy::{PolicyView, SiteFault, SiteTables};
 use desk_server_notes::news_note;
 use desk_tables::FileSystems;
 use desk_text::ReadError;
-use std::alloc::Global;
+use std::alloc::{AllocError, Global};
 use std::io::BufRead;
 
 /// The names of the words: `compare OLD NEW MOUNT...`, or with `--site` just NEW.
@@ -38,6 +37,12 @@ const PLACES: Places = Places {
     first: "OLD",
     last: "NEW",
     beside: "OLD or MOUNT",
+};
+
+/// The two texts.
+const NAMES: TwoNames = TwoNames {
+    first: "OLD",
+    second: "NEW",
 };
 
 /// Answers `compare OLD NEW MOUNT...`, or `compare --site DIR NEW`, with its options. MOUNT is parsed before any file is read.
@@ -49,72 +54,40 @@ pub fn run_compare<I: BufRead>(
     ensures { AnswersCompare (rows_in words.now) (I.remaining input.old) result }
 {
     let subject = subject_of(rt.alloc(), words, PLACES)?;
-    answer_subject(rt, words, &subject, input)
-}
-
-/// Answers by what is asked of.
-fn answer_subject<'w, I: BufRead>(
-    rt: &HostRuntime,
-    words: &ArgMatches<'w>,
-    subject: &Subject<'w>,
-    input: &mut I,
-) -> Result<Printed, Failure>
-    ensures { AnswersSubject (rows_in words.now) (I.remaining input.old) subject.now result }
-{
-    let after = word_of(words, subject, "OLD", "NEW")?;
-    let files = TwoFiles {
-        whole: whole_files(words, subject, "OLD"),
-        second: TextFile {
-            argument: "NEW",
-            path: Some(after),
-            optional: false,
-        },
+    let question = CompareQuestion {
+        all: is_set(words, "all"),
+        json: is_set(words, "json"),
     };
-    let others = two_inputs(files);
-    let systems = read_systems(rt, words, subject, others, input)?;
-    match systems {
-        Ok(filesystems) => answer_files(rt, words, &filesystems, files, input),
-        Err(printed) => Ok(printed),
-    }
+    answer_two(rt, question.json, words, &subject, NAMES, &question, input)
 }
 
-/// Answers by these file systems and files.
-fn answer_files<I: BufRead>(
-    rt: &HostRuntime,
-    words: &ArgMatches<'_>,
-    filesystems: &FileSystems,
-    files: TwoFiles<'_>,
-    input: &mut I,
-) -> Result<Printed, Failure>
-    ensures { AnswersFiles (is_set (codes "all") (rows_in words.now)) (map named (file_list files.entry)) (I.remaining input.old) filesystems.now result }
-{
-    let texts = read_two_texts(rt, files, input)?;
-    let sources = two_sources(files, &texts);
-    answer_texts(rt.alloc(), is_set(words, "all"), filesystems, sources)
-}
-
-/// Answers by the texts of the files.
-fn answer_texts(
-    alloc: Global,
+/// What changes, with the changes that matter to no client, if they are asked, and as JSON, if that is asked.
+#[derive(Clone, Copy)]
+struct CompareQuestion {
     all: bool,
-    filesystems: &FileSystems,
-    sources: TwoSources<'_>,
-) -> Result<Printed, Failure>
-    requires tables { AreReadable sources.tables }
-    requires first { IsReadable sources.first.text.now }
-    requires second { IsReadable sources.second.text.now }
-    ensures { AnswersTexts all filesystems.now sources.entry result }
-{
-    match read_sources(alloc, sources.tables) {
-        Ok(tables) => compare(alloc, all, filesystems, &tables, sources),
-        Err(error) => answer_error(alloc, sources.whole_first(), filesystems, error),
+    json: bool,
+}
+
+impl TwoQuestion for CompareQuestion {
+    ghost Answers = { λ question. AnswersTexts question.all question.json };
+
+    fn answer(
+        &self,
+        alloc: Global,
+        filesystems: &FileSystems,
+        sources: TwoSources<'_>,
+    ) -> Result<Printed, Failure> {
+        match read_sources(alloc, sources.tables) {
+            Ok(tables) => compare(alloc, *self, filesystems, &tables, sources),
+            Err(error) => answer_error(alloc, self.json, sources.whole_first(), filesystems, error),
+        }
     }
 }
 
 /// Answers by the texts of the files, of which these tables were read.
 fn compare(
     alloc: Global,
-    all: bool,
+    question: CompareQuestion,
     filesystems: &FileSystems,
     tables: &SiteTables,
     sources: TwoSources<'_>,
@@ -123,18 +96,24 @@ fn compare(
     requires first { IsReadable sources.first.text.now }
     requires second { IsReadable sources.second.text.now }
     requires known { tables_of sources.tables ≡ Ok tables.now }
-    ensures { AnswersTexts all filesystems.now sources.entry result }
+    ensures { AnswersTexts question.all question.json filesystems.now sources.entry result }
 {
     match view_of(alloc, sources.whole_first(), tables, filesystems) {
         Ok(before) => compare_with(
             alloc,
             &before,
-            all,
+            question,
             filesystems,
             tables,
             sources.whole_second(),
         ),
-        Err(error) => answer_error(alloc, sources.whole_first(), filesystems, error),
+        Err(error) => answer_error(
+            alloc,
+            question.json,
+            sources.whole_first(),
+            filesystems,
+            error,
+        ),
     }
 }
 
@@ -142,7 +121,7 @@ fn compare(
 fn compare_with(
     alloc: Global,
     before: &View,
-    all: bool,
+    question: CompareQuestion,
     filesystems: &FileSystems,
     tables: &SiteTables,
     sources: WholeSources<'_>,
@@ -150,34 +129,80 @@ fn compare_with(
     requires tables { AreReadable sources.tables }
     requires exports { IsReadable sources.exports.text.now }
     requires known { tables_of sources.tables ≡ Ok tables.now }
-    ensures { AnswersOrFault (PrintsChanges before.now (policy_of sources.entry filesystems.now) all) sources.entry filesystems.now result }
+    ensures { AnswersOrFault question.json (PrintsChanges before.now (policy_of sources.entry filesystems.now) question.all question.json) sources.entry filesystems.now result }
 {
-    match print_changes(alloc, before, all, filesystems, tables, sources) {
+    match print_changes(alloc, before, question, filesystems, tables, sources) {
         Ok(printed) => Ok(printed),
-        Err(error) => answer_error(alloc, sources, filesystems, error),
+        Err(error) => answer_error(alloc, question.json, sources, filesystems, error),
     }
 }
 
-/// Prints what changes from a policy to that of NEW, as it is shown. Standard error says what mountd(8) grants more than before.
+/// Prints what changes from a policy to that of NEW. Standard error says what mountd(8) grants more than before.
 fn print_changes(
     alloc: Global,
     before: &View,
-    all: bool,
+    question: CompareQuestion,
     filesystems: &FileSystems,
     tables: &SiteTables,
     sources: WholeSources<'_>,
 ) -> Result<Printed, ReadError<SiteFault>>
     requires exports { IsReadable sources.exports.text.now }
     requires known { tables_of sources.tables ≡ Ok tables.now }
-    ensures { let read = policy_of sources.entry filesystems.now in GivesOrFault (PrintsChanges before.now read all) read result }
+    ensures { let read = policy_of sources.entry filesystems.now in GivesOrFault (PrintsChanges before.now read question.all question.json) read result }
 {
     let after = view_of(alloc, sources, tables, filesystems)?;
     let note = news_note(alloc, before, &after)?;
-    let report = impact_report(alloc, before, &after, all)?;
+    let (status, text) = told_changes(alloc, before, &after, question)?;
+    Ok(Printed { status, text, note })
+}
+
+/// Tells what changes from a policy to another, with the exit status.
+fn told_changes(
+    alloc: Global,
+    before: &View,
+    after: &View,
+    question: CompareQuestion,
+) -> Result<(u8, String), AllocError>
+    ensures { IfOk result (λ told. TellsChanges question.json before.now after.now question.all told.0 (string_bytes told.1)) }
+{
+    if question.json {
+        told_list(alloc, before, after, question.all)
+    } else {
+        told_report(alloc, before, after, question.all)
+    }
+}
+
+/// Tells it by a report, as it is shown.
+fn told_report(
+    alloc: Global,
+    before: &View,
+    after: &View,
+    all: bool,
+) -> Result<(u8, String), AllocError>
+    ensures { IfOk result (λ told. TellsReport before.now after.now all told.0 (string_bytes told.1)) }
+{
+    let report = impact_report(alloc, before, after, all)?;
     let text = shown_lines(alloc, report.text.as_str())?;
-    Ok(Printed {
-        status: if report.mattering == 0 { 0 } else { 1 },
-        text,
-        note,
-    })
+    Ok((if report.mattering == 0 { 0 } else { 1 }, text))
+}
+
+/// Tells it by a list, as one object.
+fn told_list(
+    alloc: Global,
+    before: &View,
+    after: &View,
+    all: bool,
+) -> Result<(u8, String), AllocError>
+    ensures { IfOk result (λ told. TellsList before.now after.now all told.0 (string_bytes told.1)) }
+{
+    let found = list_changes(alloc, before, after)?;
+    let object = changes_object(
+        alloc,
+        before.policy(),
+        after.policy(),
+        all,
+        found.as_slice(),
+    )?;
+    let text = object_line(alloc, object.as_str())?;
+    Ok((changes_status(found.as_slice()), text))
 }

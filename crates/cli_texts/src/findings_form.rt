@@ -1,6 +1,6 @@
 //! The form in which `check` prints its findings: as text, as JSON or as a log of SARIF.
 
-ghost use Rattle.std.specs.Prelude.{◌≡◌, IfOk};
+ghost use Rattle.std.specs.Prelude.{IfOk};
 ghost use Rattle.std.specs.Option.{option_map};
 ghost use Rattle.desk_findings.specs.Finding.{HaveSlices};
 ghost use Rattle.cli_texts.specs.FindingsForm.{ReportsBy, ReportsHeardIn, ReportsIn};

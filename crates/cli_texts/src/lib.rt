@@ -25,7 +25,9 @@ pub mod terms_command;
 pub mod test_command;
 pub mod try_command;
 mod two_files;
+mod two_question;
 mod whole_files;
+mod whole_question;
 mod whole_tables;
 
 use desk_index::Index;

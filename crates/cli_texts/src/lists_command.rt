@@ -1,6 +1,6 @@
 //! The command `lists`: what a client may mount, by an exports text.
 
-ghost use Rattle.std.specs.Prelude.{◌≡◌, IfOk, map};
+ghost use Rattle.std.specs.Prelude.{◌≡◌, IfOk};
 ghost use Rattle.std.specs.String.{string_bytes};
 ghost use Rattle.desk_text.specs.Address.{number_of};
 ghost use Rattle.desk_text.specs.Lines.{IsReadable};
@@ -8,17 +8,14 @@ ghost use Rattle.desk_policy.specs.ListingPrints.{listing_text};
 ghost use Rattle.desk_policy.specs.Listings.{listing_of};
 ghost use Rattle.desk_findings.specs.CheckFaults.{AreReadable};
 ghost use Rattle.cli_words.specs.Words.{rows_in};
-ghost use Rattle.cli_texts.specs.ListsCommand.{AnswersFiles, AnswersHost, AnswersLists, AnswersSubject, PrintsListing, ReadsHost};
-ghost use Rattle.cli_texts.specs.TableFiles.{named};
-ghost use Rattle.cli_texts.specs.WholeFiles.{file_list};
+ghost use Rattle.cli_texts.specs.ListsCommand.{AnswersHost, AnswersLists, AnswersSubject, PrintsListing, ReadsHost};
 ghost use Rattle.cli_texts.specs.WholeTables.{GivesOrFault, policy_of};
 
 use crate::View;
 use crate::faulty_texts::answer_error;
 use crate::printing::print_alone;
 use crate::subject::{Places, Subject, subject_of, word_of};
-use crate::systems::read_systems;
-use crate::whole_files::{WholeFiles, read_whole_texts, whole_files, whole_inputs, whole_sources};
+use crate::whole_question::{WholeQuestion, answer_whole};
 use crate::whole_tables::view_of;
 use clap::ArgMatches;
 use cli_output::failure::Failure;
@@ -60,13 +57,31 @@ fn answer_subject<'w, I: BufRead>(
 ) -> Result<Printed, Failure>
     ensures { AnswersSubject (rows_in words.now) (I.remaining input.old) subject.now result }
 {
-    let address = host_of(rt.alloc(), words, subject)?;
-    let files = whole_files(words, subject, "FILE");
-    let others = whole_inputs(files);
-    let systems = read_systems(rt, words, subject, others, input)?;
-    match systems {
-        Ok(filesystems) => answer_files(rt, address, &filesystems, files, input),
-        Err(printed) => Ok(printed),
+    let question = ListsQuestion {
+        address: host_of(rt.alloc(), words, subject)?,
+    };
+    answer_whole(rt, false, words, subject, &question, input)
+}
+
+/// What a client may mount.
+#[derive(Clone, Copy)]
+struct ListsQuestion {
+    address: Addr,
+}
+
+impl WholeQuestion for ListsQuestion {
+    ghost Answers = { λ question. AnswersHost (number_of question.address) };
+
+    fn answer(
+        &self,
+        alloc: Global,
+        filesystems: &FileSystems,
+        sources: WholeSources<'_>,
+    ) -> Result<Printed, Failure> {
+        match print_listing(alloc, self.address, filesystems, sources) {
+            Ok(printed) => Ok(printed),
+            Err(error) => answer_error(alloc, false, sources, filesystems, error),
+        }
     }
 }
 
@@ -76,38 +91,6 @@ fn host_of(alloc: Global, words: &ArgMatches<'_>, subject: &Subject<'_>) -> Resu
 {
     let host = word_of(words, subject, "FILE", "HOST")?;
     read_host(alloc, host)
-}
-
-/// Answers by these file systems and files.
-fn answer_files<I: BufRead>(
-    rt: &HostRuntime,
-    address: Addr,
-    filesystems: &FileSystems,
-    files: WholeFiles<'_>,
-    input: &mut I,
-) -> Result<Printed, Failure>
-    ensures { AnswersFiles (number_of address) (map named (file_list files.entry)) (I.remaining input.old) filesystems.now result }
-{
-    let texts = read_whole_texts(rt, files, input)?;
-    let sources = whole_sources(files, &texts);
-    answer_host(rt.alloc(), address, filesystems, sources)
-}
-
-/// Answers about a client by the texts of the files.
-fn answer_host(
-    alloc: Global,
-    address: Addr,
-    filesystems: &FileSystems,
-    sources: WholeSources<'_>,
-) -> Result<Printed, Failure>
-    requires tables { AreReadable sources.tables }
-    requires exports { IsReadable sources.exports.text.now }
-    ensures { AnswersHost (number_of address) filesystems.now sources.entry result }
-{
-    match print_listing(alloc, address, filesystems, sources) {
-        Ok(printed) => Ok(printed),
-        Err(error) => answer_error(alloc, sources, filesystems, error),
-    }
 }
 
 /// Prints what a client may mount by these texts.

@@ -3,7 +3,7 @@
 ghost use Rattle.std.specs.Prelude.{◌≡◌, ◌++◌, IfOk, OnOk, map};
 ghost use Rattle.std.specs.String.{string_bytes};
 ghost use Rattle.desk_text.specs.Lines.{IsReadable};
-ghost use Rattle.desk_text.specs.Reading.{Reads, ReadsAs};
+ghost use Rattle.desk_text.specs.Reading.{ReadsAs};
 ghost use Rattle.desk_split.specs.Splitting.{split_text};
 ghost use Rattle.cli_texts.specs.SplitText as spec;
 

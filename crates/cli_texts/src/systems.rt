@@ -1,6 +1,7 @@
 //! The file systems of which a command is asked: those of MOUNT, of the file of `--mounts`, or of a folder.
 
 ghost use Rattle.std.specs.Prelude.{◌≡◌, IfOk, Some, codes};
+ghost use Rattle.std.specs.String.{string_bytes};
 ghost use Rattle.clap.specs.Words.{all_of, first_of};
 ghost use Rattle.desk_text.specs.Lines.{IsReadable};
 ghost use Rattle.desk_tables.specs.FileSystemsText.{read_filesystems};
@@ -8,7 +9,7 @@ ghost use Rattle.cli_files.specs.Files.{Leaves};
 ghost use Rattle.cli_files.specs.FolderSystems.{LeavesBehind, systems_paths};
 ghost use Rattle.cli_words.specs.Words.{rows_in};
 ghost use Rattle.cli_texts.specs.Systems as spec;
-ghost use Rattle.cli_texts.specs.Systems.{AnswersText, LeavesSystems, PrintsSystemsFault, ReadsByWords, ReadsFolder, ReadsMountsFile, ReadsSystems, files_of};
+ghost use Rattle.cli_texts.specs.Systems.{AnswersText, LeavesSystems, PrintsSystemsFault, ReadsByWords, ReadsFolder, ReadsMountsFile, ReadsSystems, TellsSystemsFault, files_of};
 
 use crate::printing::end_line;
 use crate::subject::{SiteFolder, Subject};
@@ -21,7 +22,7 @@ use cli_output::failure::Failure;
 use cli_output::printed::Printed;
 use cli_words::values::read_mounts;
 use cli_words::words::{all_given, given};
-use desk_check::tell_split_fault;
+use desk_check::{split_fault_json, tell_split_fault};
 use desk_findings::Source;
 use desk_split::SplitFault;
 use desk_tables::{FileSystems, TableFault};
@@ -29,16 +30,17 @@ use desk_text::ReadError;
 use std::alloc::{AllocError, Global};
 use std::io::BufRead;
 
-/// Makes the file systems of which a command is asked, or prints the fault of their text. MOUNT is parsed before any file is read, and
-/// the file of `--mounts` is read before the others, of which so many are standard input.
+/// Makes the file systems of which a command is asked, or prints the fault of their text, in a line or as JSON. MOUNT is parsed before
+/// any file is read, and the file of `--mounts` is read before the others, of which so many are standard input.
 pub fn read_systems<I: BufRead>(
     rt: &HostRuntime,
+    json: bool,
     words: &ArgMatches<'_>,
     subject: &Subject<'_>,
     others: u32,
     input: &mut I,
 ) -> Result<Result<FileSystems, Printed>, Failure>
-    ensures systems { ReadsSystems subject.now (rows_in words.now) others (I.remaining input.old) result }
+    ensures systems { ReadsSystems json subject.now (rows_in words.now) others (I.remaining input.old) result }
     ensures left { LeavesSystems subject.now (rows_in words.now) (I.remaining input.old) (I.remaining input.new) }
 {
     match subject {
@@ -46,7 +48,7 @@ pub fn read_systems<I: BufRead>(
             Ok(filesystems) => Ok(Ok(filesystems)),
             Err(failure) => Err(failure),
         },
-        Subject::Site(folder) => read_folder(rt, folder, input),
+        Subject::Site(folder) => read_folder(rt, json, folder, input),
     }
 }
 
@@ -99,10 +101,11 @@ fn is_input_again(file: &str, others: u32) -> bool
 /// Makes the file systems of a folder.
 fn read_folder<I: BufRead>(
     rt: &HostRuntime,
+    json: bool,
     folder: &SiteFolder,
     input: &mut I,
 ) -> Result<Result<FileSystems, Printed>, Failure>
-    ensures systems { ReadsFolder folder.now result }
+    ensures systems { ReadsFolder json folder.now result }
     ensures left { LeavesBehind (files_of folder.now) (I.remaining input.old) (I.remaining input.new) }
 {
     match cli_files::folder_systems::read_systems(rt, "--site", systems_files(folder), input) {
@@ -112,7 +115,7 @@ fn read_folder<I: BufRead>(
                 path: folder.paths.filesystems.as_str(),
                 text: text.as_str(),
             };
-            Ok(read_listed(rt.alloc(), source)?)
+            Ok(read_listed(rt.alloc(), json, source)?)
         }
         Err(failure) => Err(failure),
     }
@@ -131,28 +134,52 @@ pub fn systems_files(folder: &SiteFolder) -> SystemsFiles<'_>
 /// Reads the file systems of a text, or prints its fault.
 fn read_listed(
     alloc: Global,
+    json: bool,
     source: Source<'_>,
 ) -> Result<Result<FileSystems, Printed>, AllocError>
     requires { IsReadable source.text.now }
-    ensures { IfOk result (AnswersText source.entry (read_filesystems source.entry.text.now)) }
+    ensures { IfOk result (AnswersText json source.entry (read_filesystems source.entry.text.now)) }
 {
     match ReadError::split(FileSystems::read(alloc, source.text))? {
         Ok(filesystems) => Ok(Ok(filesystems)),
-        Err(fault) => Ok(Err(print_fault(alloc, source, fault)?)),
+        Err(fault) => Ok(Err(print_fault(alloc, json, source, fault)?)),
     }
 }
 
 /// Prints the fault of a text of file systems, and on standard error the finding that `check` makes of it.
-fn print_fault(alloc: Global, source: Source<'_>, fault: TableFault) -> Result<Printed, AllocError>
+fn print_fault(
+    alloc: Global,
+    json: bool,
+    source: Source<'_>,
+    fault: TableFault,
+) -> Result<Printed, AllocError>
     requires { IsReadable source.text.now }
-    ensures { IfOk result (PrintsSystemsFault source.entry fault) }
+    ensures { IfOk result (PrintsSystemsFault json source.entry fault) }
 {
-    let fault = SplitFault::FileSystems(fault);
-    let note = tell_split_fault(alloc, source, source, fault)?;
-    let text = end_line(fault.text(alloc)?)?;
+    let split_fault = SplitFault::FileSystems(fault);
+    let note = tell_split_fault(alloc, source, source, split_fault)?;
+    let text = told_fault(alloc, json, source, fault)?;
     Ok(Printed {
         status: 3,
         text,
         note,
     })
+}
+
+/// Writes the fault of a text of file systems in a line, or as JSON: the list of that finding alone.
+fn told_fault(
+    alloc: Global,
+    json: bool,
+    source: Source<'_>,
+    fault: TableFault,
+) -> Result<String, AllocError>
+    requires { IsReadable source.text.now }
+    ensures { IfOk result (λ text. TellsSystemsFault json source.entry fault (string_bytes text)) }
+{
+    let fault = SplitFault::FileSystems(fault);
+    if json {
+        Ok(split_fault_json(alloc, source, source, fault)?)
+    } else {
+        Ok(end_line(fault.text(alloc)?)?)
+    }
 }

@@ -1,19 +1,15 @@
 //! The command `terms`: whom each directory of an exports text is for, and on what terms.
 
-ghost use Rattle.std.specs.Prelude.{map};
 ghost use Rattle.desk_text.specs.Lines.{IsReadable};
 ghost use Rattle.desk_findings.specs.CheckFaults.{AreReadable};
 ghost use Rattle.cli_words.specs.Words.{rows_in};
-ghost use Rattle.cli_texts.specs.TableFiles.{named};
-ghost use Rattle.cli_texts.specs.TermsCommand.{AnswersFiles, AnswersSubject, AnswersTerms, AnswersTexts, PrintsTerms};
-ghost use Rattle.cli_texts.specs.WholeFiles.{file_list};
+ghost use Rattle.cli_texts.specs.TermsCommand.{AnswersTerms, AnswersTexts, PrintsTerms};
 ghost use Rattle.cli_texts.specs.WholeTables.{GivesOrFault, policy_of};
 
 use crate::faulty_texts::answer_error;
 use crate::printing::print_alone;
-use crate::subject::{Places, Subject, subject_of};
-use crate::systems::read_systems;
-use crate::whole_files::{WholeFiles, read_whole_texts, whole_files, whole_inputs, whole_sources};
+use crate::subject::{Places, subject_of};
+use crate::whole_question::{WholeQuestion, answer_whole};
 use crate::whole_tables::view_of;
 use clap::ArgMatches;
 use cli_output::failure::Failure;
@@ -41,54 +37,26 @@ pub fn run_terms<I: BufRead>(
     ensures { AnswersTerms (rows_in words.now) (I.remaining input.old) result }
 {
     let subject = subject_of(rt.alloc(), words, PLACES)?;
-    answer_subject(rt, words, &subject, input)
+    answer_whole(rt, false, words, &subject, &TermsQuestion, input)
 }
 
-/// Answers by what is asked of.
-fn answer_subject<'w, I: BufRead>(
-    rt: &HostRuntime,
-    words: &ArgMatches<'w>,
-    subject: &Subject<'w>,
-    input: &mut I,
-) -> Result<Printed, Failure>
-    ensures { AnswersSubject (rows_in words.now) (I.remaining input.old) subject.now result }
-{
-    let files = whole_files(words, subject, "FILE");
-    let others = whole_inputs(files);
-    let systems = read_systems(rt, words, subject, others, input)?;
-    match systems {
-        Ok(filesystems) => answer_files(rt, &filesystems, files, input),
-        Err(printed) => Ok(printed),
-    }
-}
+/// All exports with their terms.
+#[derive(Clone, Copy)]
+struct TermsQuestion;
 
-/// Answers by these file systems and files.
-fn answer_files<I: BufRead>(
-    rt: &HostRuntime,
-    filesystems: &FileSystems,
-    files: WholeFiles<'_>,
-    input: &mut I,
-) -> Result<Printed, Failure>
-    ensures { AnswersFiles (map named (file_list files.entry)) (I.remaining input.old) filesystems.now result }
-{
-    let texts = read_whole_texts(rt, files, input)?;
-    let sources = whole_sources(files, &texts);
-    answer_texts(rt.alloc(), filesystems, sources)
-}
+impl WholeQuestion for TermsQuestion {
+    ghost Answers = { λ _. AnswersTexts };
 
-/// Answers by the texts of the files.
-fn answer_texts(
-    alloc: Global,
-    filesystems: &FileSystems,
-    sources: WholeSources<'_>,
-) -> Result<Printed, Failure>
-    requires tables { AreReadable sources.tables }
-    requires exports { IsReadable sources.exports.text.now }
-    ensures { AnswersTexts filesystems.now sources.entry result }
-{
-    match print_terms(alloc, filesystems, sources) {
-        Ok(printed) => Ok(printed),
-        Err(error) => answer_error(alloc, sources, filesystems, error),
+    fn answer(
+        &self,
+        alloc: Global,
+        filesystems: &FileSystems,
+        sources: WholeSources<'_>,
+    ) -> Result<Printed, Failure> {
+        match print_terms(alloc, filesystems, sources) {
+            Ok(printed) => Ok(printed),
+            Err(error) => answer_error(alloc, false, sources, filesystems, error),
+        }
     }
 }
 

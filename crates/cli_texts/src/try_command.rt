@@ -1,27 +1,24 @@
 //! The command `try`: one verdict over one exports text.
 
-ghost use Rattle.std.specs.Prelude.{◌≡◌, Err, Ok, map};
+ghost use Rattle.std.specs.Prelude.{◌≡◌, Err, Ok};
 ghost use Rattle.desk_text.specs.Lines.{IsReadable};
 ghost use Rattle.desk_text.specs.Reading.{Reads};
 ghost use Rattle.desk_findings.specs.CheckFaults.{AreReadable};
 ghost use Rattle.desk_findings.specs.CheckText.{tables_of};
 ghost use Rattle.cli_words.specs.Words.{rows_in};
-ghost use Rattle.cli_texts.specs.TryCommand.{AnswersFiles, AnswersRequest, AnswersSubject, AnswersTry, AnswersTryAs, PrintsVerdict, ReadsRequest, asked_of, question_in};
-ghost use Rattle.cli_texts.specs.TableFiles.{named};
-ghost use Rattle.cli_texts.specs.WholeFiles.{file_list};
+ghost use Rattle.cli_texts.specs.TryCommand.{AnswersRequest, AnswersSubject, AnswersTry, AnswersTryAs, PrintsVerdict, ReadsRequest, asked_in, asked_of, question_in};
 ghost use Rattle.cli_texts.specs.WholeTables.{GivesOrFault, policy_of};
 
 use crate::faulty_texts::answer_error;
 use crate::subject::{Places, Subject, subject_of, word_of};
-use crate::systems::read_systems;
-use crate::whole_files::{WholeFiles, read_whole_texts, whole_files, whole_inputs, whole_sources};
+use crate::whole_question::{WholeQuestion, answer_whole};
 use clap::ArgMatches;
 use cli_output::failure::Failure;
 use cli_output::printed::Printed;
 use cli_verdict::try_text::try_text;
 use cli_verdict::{Asking, MountQuestion, print_tried, read_asking};
 use cli_words::values::{Request, read_credential, read_credential_with, read_request};
-use cli_words::words::given;
+use cli_words::words::{given, is_set};
 use desk_findings::{WholeSources, read_sources};
 use desk_policy::{SiteFault, SiteTables};
 use desk_tables::{Cred, FileSystems};
@@ -75,43 +72,52 @@ fn answer_subject<'w, I: BufRead>(
     ensures { AnswersSubject asking (rows_in words.now) (I.remaining input.old) subject.now result }
 {
     let request = words_request(rt.alloc(), words, subject)?;
-    let files = whole_files(words, subject, "FILE");
-    let others = whole_inputs(files);
-    let systems = read_systems(rt, words, subject, others, input)?;
-    match systems {
-        Ok(filesystems) => {
-            let asked = Asked {
-                word: given(words, "as"),
-                asking,
-                request: &request,
-                filesystems: &filesystems,
-            };
-            answer_files(rt, asked, files, input)
-        }
-        Err(printed) => Ok(printed),
+    let question = TryQuestion {
+        word: given(words, "as"),
+        asking,
+        json: is_set(words, "json"),
+        request: &request,
+    };
+    answer_whole(rt, question.json, words, subject, &question, input)
+}
+
+/// A request as it is asked, with the word of a credential, if it is given, and whether the answer is printed as JSON.
+#[derive(Clone, Copy)]
+struct TryQuestion<'a> {
+    word: Option<&'a str>,
+    asking: Asking,
+    json: bool,
+    request: &'a Request,
+}
+
+impl WholeQuestion for TryQuestion<'_> {
+    ghost Answers = { λ question table. AnswersRequest (asked_in question table) };
+
+    fn answer(
+        &self,
+        alloc: Global,
+        filesystems: &FileSystems,
+        sources: WholeSources<'_>,
+    ) -> Result<Printed, Failure> {
+        let asked = Asked {
+            word: self.word,
+            asking: self.asking,
+            json: self.json,
+            request: self.request,
+            filesystems,
+        };
+        answer_request(alloc, asked, sources)
     }
 }
 
-/// A request as it is asked: with the word of a credential, if it is given, and the file systems.
+/// The same, with the file systems.
 #[derive(Clone, Copy)]
 struct Asked<'a> {
     word: Option<&'a str>,
     asking: Asking,
+    json: bool,
     request: &'a Request,
     filesystems: &'a FileSystems,
-}
-
-/// Answers a request by these files.
-fn answer_files<I: BufRead>(
-    rt: &HostRuntime,
-    asked: Asked<'_>,
-    files: WholeFiles<'_>,
-    input: &mut I,
-) -> Result<Printed, Failure>
-    ensures { AnswersFiles (asked_of asked.entry) (map named (file_list files.entry)) (I.remaining input.old) result }
-{
-    let texts = read_whole_texts(rt, files, input)?;
-    answer_request(rt.alloc(), asked, whole_sources(files, &texts))
 }
 
 /// Parses the request that the words HOST and DIR write.
@@ -158,7 +164,7 @@ fn answer_with(
     let own = read_credential_with(alloc, asked.word, &tables.users, &tables.groups)?;
     match decide(alloc, &own, asked, tables, sources) {
         Ok(printed) => Ok(printed),
-        Err(error) => answer_error(alloc, sources, asked.filesystems, error),
+        Err(error) => answer_error(alloc, asked.json, sources, asked.filesystems, error),
     }
 }
 
@@ -177,7 +183,7 @@ fn answer_fault(
 {
     let tables = sources.tables;
     match read_credential(alloc, asked.word, tables.passwd.text, tables.group.text) {
-        Ok(_) => answer_error(alloc, sources, asked.filesystems, error),
+        Ok(_) => answer_error(alloc, asked.json, sources, asked.filesystems, error),
         Err(failure) => {
             drop(error);
             Err(failure)
@@ -196,14 +202,15 @@ fn decide(
     requires exports { IsReadable sources.exports.text.now }
     requires known { tables_of sources.tables ≡ Ok tables.now }
     ensures { let table = asked.entry.filesystems.now in
-        GivesOrFault (PrintsVerdict sources.entry table (question_in asked.entry.request.now own.now asked.entry.asking)) (policy_of sources.entry table) result }
+        GivesOrFault (PrintsVerdict sources.entry table (question_in asked.entry.request.now own.now asked.entry.asking asked.entry.json)) (policy_of sources.entry table) result }
 {
-    let filesystems = asked.filesystems.copy()?;
+    let filesystems = asked.filesystems.share()?;
     let question = MountQuestion {
         address: asked.request.address,
         path: &asked.request.path,
         own,
         asking: asked.asking,
+        json: asked.json,
     };
     let tried = try_text(alloc, sources.exports.text, tables, filesystems, question)?;
     Ok(print_tried(tried))

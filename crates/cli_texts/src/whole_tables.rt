@@ -27,7 +27,7 @@ pub fn view_of(
     requires known { tables_of sources.tables ≡ Ok tables.now }
     ensures { let read = policy_of sources.entry filesystems.now in GivesOrFault (Writes read) read result }
 {
-    let own = filesystems.copy()?;
+    let own = filesystems.share()?;
     let text = sources.exports.text;
     let policy = parse_whole_without_warnings(alloc, Profile::Two, text, own, tables)?;
     // No verdict and no fault rests on the warnings, which are left out.

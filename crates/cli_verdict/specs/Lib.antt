@@ -1,3 +1,5 @@
 pub mod Asking
+pub mod Changes
+pub mod ObjectLine
 pub mod Ranges
 pub mod TryText

@@ -1,20 +1,25 @@
 //! The verdict on one mount over an exports text, and why.
 
-ghost use Rattle.std.specs.Prelude.{◌≡◌, ◌++◌, ◌∷◌, [], IfOk, Ok, is_ok};
+ghost use Rattle.std.specs.Prelude.{◌≡◌, ◌++◌, ◌∷◌, [], IfOk, None, Ok, Some, is_ok};
+ghost use Rattle.std.specs.Option.{option_map};
 ghost use Rattle.std.specs.String.{string_bytes};
 ghost use Rattle.desk_text.specs.Lines.{IsReadable};
 ghost use Rattle.desk_exports.specs.declared.profile.Profile.TheVariants.{Two};
 ghost use Rattle.desk_policy.specs.Parsing.{read_whole_with};
 ghost use Rattle.desk_policy.specs.Prints.{acting_text, verdict_line};
 ghost use Rattle.desk_policy.specs.Verdict.{verdict_result};
-ghost use Rattle.cli_output.specs.Shown.{shown_lines};
-ghost use Rattle.cli_verdict.specs.TryText.{Answers, AnswersHere, AnswersThere, PrintsTried, TellsAbove, Tries, TriesHere, TriesThere, answer_of, answer_on, mount_question_of, reasons_text};
+ghost use Rattle.desk_why.specs.WhyPrints.{why_text};
+ghost use Rattle.serde_json.specs.Written.{compact_text};
+ghost use Rattle.cli_verdict.specs.TryText.{Answers, AnswersHere, AnswersThere, PrintsTried, TellsVerdict, Tries, TriesHere, TriesThere, answer_of, answer_on, answer_text, lines_text, mount_question_of, object_of};
 
 use crate::asking::Asking;
+use crate::object_lines::object_line;
 use cli_output::printed::Printed;
-use cli_output::shown::shown_lines;
+use cli_output::shown_lines::shown_lines;
 use desk_exports::Profile;
+use desk_http_bodies::verdict_body;
 use desk_index::Index;
+use desk_json::why_object;
 use desk_policy::{
     Plain, Policy, PolicyView, SiteFault, SiteTables, Verdict, parse_whole_without_warnings,
     verdict_text, warnings_change_no_answer,
@@ -37,6 +42,8 @@ pub struct MountQuestion<'a> {
     pub own: &'a Option<Cred>,
     /// By which rule it is asked, and whether with reasons.
     pub asking: Asking,
+    /// Whether the answer is printed as one compact JSON object.
+    pub json: bool,
 }
 
 /// The answer to a client's question by a policy that is consistent.
@@ -44,7 +51,7 @@ pub struct MountQuestion<'a> {
 pub struct Tried {
     /// Whether the mount is granted.
     pub granted: bool,
-    /// What is printed, in whole lines: the verdict, and below it why, if that is asked.
+    /// What is printed, in whole lines: the verdict, and below it why, if that is asked; or both as one object.
     pub text: String,
     /// What standard error says of mountd(8) beside it, in whole lines, or nothing.
     pub note: String,
@@ -125,7 +132,7 @@ pub fn tried_by(
     }
 }
 
-/// Decides by the rule of this desk.
+/// Decides by the rule of this desk, and tells why, if that is asked.
 fn tried_here<V: PolicyView>(
     alloc: Global,
     view: &V,
@@ -134,31 +141,52 @@ fn tried_here<V: PolicyView>(
 ) -> Result<Tried, AllocError>
     ensures { IfOk result (AnswersHere site_tables.now (V.in_force view.now) (mount_question_of question.entry)) }
 {
-    let reasons = reasons_text(alloc, view, site_tables, question)?;
-    tried_above(alloc, view, question, reasons.as_str())
+    match question.asking {
+        Asking::Reasons => tried_why(alloc, view, site_tables, question),
+        Asking::Verdict | Asking::Server => tried_above(alloc, view, question, None),
+    }
 }
 
-/// Decides by the rule of this desk, and tells these reasons, as they are shown, below the verdict.
+/// Decides by the rule of this desk, and tells why.
+fn tried_why<V: PolicyView>(
+    alloc: Global,
+    view: &V,
+    site_tables: &SiteTables,
+    question: MountQuestion<'_>,
+) -> Result<Tried, AllocError>
+    ensures { let asked = mount_question_of question.entry in let content = V.in_force view.now in
+        IfOk result (TellsVerdict (Some (why_text site_tables.now.netgroups site_tables.now.hosts content asked.address asked.path)) content asked) }
+{
+    let asked = Asked {
+        netgroups: &site_tables.netgroups,
+        hosts: &site_tables.hosts,
+        address: question.address,
+        path: question.path,
+    };
+    let reasons = why_text(alloc, view, asked)?;
+    tried_with(alloc, view, question, reasons.as_str())
+}
+
+/// Decides by the rule of this desk, and tells these reasons below the verdict, as they are shown, or as a member of its object.
 pub fn tried_with<V: PolicyView>(
     alloc: Global,
     view: &V,
     question: MountQuestion<'_>,
     reasons: &str,
 ) -> Result<Tried, AllocError>
-    ensures { IfOk result (TellsAbove (shown_lines reasons.now) (V.in_force view.now) (mount_question_of question.entry)) }
+    ensures { IfOk result (TellsVerdict (Some reasons.now) (V.in_force view.now) (mount_question_of question.entry)) }
 {
-    let shown = shown_lines(alloc, reasons)?;
-    tried_above(alloc, view, question, shown.as_str())
+    tried_above(alloc, view, question, Some(reasons))
 }
 
-/// Decides by the rule of this desk, above these lines. Standard error says by which line mountd(8) grants what is denied.
+/// Decides by the rule of this desk, above these reasons. Standard error says by which line mountd(8) grants what is denied.
 fn tried_above<V: PolicyView>(
     alloc: Global,
     view: &V,
     question: MountQuestion<'_>,
-    below: &str,
+    reasons: Option<&str>,
 ) -> Result<Tried, AllocError>
-    ensures { IfOk result (TellsAbove below.now (V.in_force view.now) (mount_question_of question.entry)) }
+    ensures { IfOk result (TellsVerdict (option_map (λ lines. lines.now) reasons.entry) (V.in_force view.now) (mount_question_of question.entry)) }
 {
     let verdict = view.decide(question.address, question.path);
     let note = wider_note(
@@ -168,8 +196,7 @@ fn tried_above<V: PolicyView>(
         question.path,
         &verdict,
     )?;
-    let mut text = verdict_lines(alloc, view.policy(), &verdict, question.own)?;
-    text.push_str(below)?;
+    let text = answer_text(alloc, view.policy(), &verdict, question, reasons)?;
     Ok(Tried {
         granted: is_granted(&verdict),
         text,
@@ -187,7 +214,7 @@ fn tried_there(
 {
     let note = left_out_note(alloc, index)?;
     let verdict = server_decide(index, question.address, question.path);
-    let text = verdict_lines(alloc, index.policy(), &verdict, question.own)?;
+    let text = answer_text(alloc, index.policy(), &verdict, question, None)?;
     Ok(Tried {
         granted: is_granted(&verdict),
         text,
@@ -195,28 +222,59 @@ fn tried_there(
     })
 }
 
-/// Writes why, as it is shown, if that is asked, and else nothing.
-fn reasons_text<V: PolicyView>(
+/// Writes a verdict on a question, with these reasons, if there are any: in lines, or as one object.
+fn answer_text(
     alloc: Global,
-    view: &V,
-    site_tables: &SiteTables,
+    policy: &Policy,
+    verdict: &Verdict<'_>,
     question: MountQuestion<'_>,
+    reasons: Option<&str>,
 ) -> Result<String, AllocError>
-    ensures { IfOk result (λ text. string_bytes text ≡ reasons_text site_tables.now (V.in_force view.now) (mount_question_of question.entry)) }
+    ensures { IfOk result (λ text. string_bytes text
+        ≡ answer_text question.entry.json (option_map (λ lines. lines.now) reasons.entry) policy.now question.entry.own.now (verdict_result verdict.now)) }
 {
-    match question.asking {
-        Asking::Reasons => {
-            let asked = Asked {
-                netgroups: &site_tables.netgroups,
-                hosts: &site_tables.hosts,
-                address: question.address,
-                path: question.path,
-            };
-            let reasons = why_text(alloc, view, asked)?;
-            shown_lines(alloc, reasons.as_str())
-        }
-        Asking::Verdict | Asking::Server => Ok(String::new(alloc)),
+    if question.json {
+        let object = object_text(alloc, policy, verdict, question.own, reasons)?;
+        object_line(alloc, object.as_str())
+    } else {
+        lines_text(alloc, policy, verdict, question.own, reasons)
     }
+}
+
+/// Writes a verdict as an object, with these reasons as a member of it, if there are any.
+fn object_text(
+    alloc: Global,
+    policy: &Policy,
+    verdict: &Verdict<'_>,
+    own: &Option<Cred>,
+    reasons: Option<&str>,
+) -> Result<String, AllocError>
+    ensures { IfOk result (λ text. string_bytes text
+        ≡ compact_text (object_of (option_map (λ lines. lines.now) reasons.entry) policy.now own.now (verdict_result verdict.now))) }
+{
+    match reasons {
+        Some(reasons) => why_object(alloc, policy, verdict, own, reasons),
+        None => verdict_body(alloc, policy, verdict, own),
+    }
+}
+
+/// Writes a verdict in a line, and below it these reasons, if there are any, as they are shown.
+fn lines_text(
+    alloc: Global,
+    policy: &Policy,
+    verdict: &Verdict<'_>,
+    own: &Option<Cred>,
+    reasons: Option<&str>,
+) -> Result<String, AllocError>
+    ensures { IfOk result (λ text. string_bytes text
+        ≡ lines_text (option_map (λ lines. lines.now) reasons.entry) policy.now own.now (verdict_result verdict.now)) }
+{
+    let mut text = verdict_lines(alloc, policy, verdict, own)?;
+    if let Some(reasons) = reasons {
+        let shown = shown_lines(alloc, reasons)?;
+        text.push_str(shown.as_str())?;
+    }
+    Ok(text)
 }
 
 /// Prints a verdict by a policy in a line, and says whether it grants the mount. If the client's credential is given, a granted line

@@ -54,26 +54,26 @@ table_options = option (codes "hosts") ∷ option (codes "networks") ∷ option 
 -- the commands, in the order of the help
 abbrev pub commands : List CommandRow
 commands =
-    row subcommand.Try (codes "try") (optional_word (codes "FILE") ∷ optional_word (codes "HOST") ∷ optional_word (codes "DIR") ∷ optional_words (codes "MOUNT") ∷ []) true (option (codes "as") ∷ flag (codes "why") ∷ flag (codes "mountd") ∷ [])
+    row subcommand.Try (codes "try") (optional_word (codes "FILE") ∷ optional_word (codes "HOST") ∷ optional_word (codes "DIR") ∷ optional_words (codes "MOUNT") ∷ []) true (option (codes "as") ∷ flag (codes "why") ∷ flag (codes "mountd") ∷ flag (codes "json") ∷ [])
     ∷ row subcommand.Split (codes "split") (word (codes "FILE") ∷ word (codes "FILESYSTEMS") ∷ []) false []
     ∷ row subcommand.Check (codes "check") (optional_word (codes "FILE") ∷ optional_words (codes "MOUNT") ∷ []) true (flag (codes "brief") ∷ flag (codes "strict") ∷ flag (codes "json") ∷ flag (codes "sarif") ∷ flag (codes "opinions") ∷ option (codes "ignore") ∷ [])
-    ∷ row subcommand.Clients (codes "clients") (optional_word (codes "FILE") ∷ optional_word (codes "DIR") ∷ optional_words (codes "MOUNT") ∷ []) true (flag (codes "mountd") ∷ [])
+    ∷ row subcommand.Clients (codes "clients") (optional_word (codes "FILE") ∷ optional_word (codes "DIR") ∷ optional_words (codes "MOUNT") ∷ []) true (flag (codes "mountd") ∷ flag (codes "json") ∷ [])
     ∷ row subcommand.Lists (codes "lists") (optional_word (codes "FILE") ∷ optional_word (codes "HOST") ∷ optional_words (codes "MOUNT") ∷ []) true []
     ∷ row subcommand.Terms (codes "terms") (optional_word (codes "FILE") ∷ optional_words (codes "MOUNT") ∷ []) true []
-    ∷ row subcommand.Compare (codes "compare") (optional_word (codes "OLD") ∷ optional_word (codes "NEW") ∷ optional_words (codes "MOUNT") ∷ []) true (flag (codes "all") ∷ [])
-    ∷ row subcommand.Test (codes "test") (optional_word (codes "FILE") ∷ optional_word (codes "EXPECTATIONS") ∷ optional_words (codes "MOUNT") ∷ []) true (flag (codes "json") ∷ [])
+    ∷ row subcommand.Compare (codes "compare") (optional_word (codes "OLD") ∷ optional_word (codes "NEW") ∷ optional_words (codes "MOUNT") ∷ []) true (flag (codes "all") ∷ flag (codes "json") ∷ [])
+    ∷ row subcommand.Test (codes "test") (optional_word (codes "FILE") ∷ optional_word (codes "EXPECTATIONS") ∷ optional_words (codes "MOUNT") ∷ []) true (flag (codes "json") ∷ flag (codes "sarif") ∷ [])
     ∷ row subcommand.Init (codes "init") (word (codes "DB") ∷ word (codes "DIR") ∷ []) false []
-    ∷ row subcommand.Ask (codes "ask") (word (codes "DB") ∷ word (codes "HOST") ∷ word (codes "DIR") ∷ []) false (option (codes "as") ∷ flag (codes "why") ∷ flag (codes "mountd") ∷ [])
-    ∷ row subcommand.Show (codes "show") (word (codes "DB") ∷ word (codes "HOST") ∷ []) false []
-    ∷ row subcommand.Exports (codes "exports") (word (codes "DB") ∷ []) false (flag (codes "terms") ∷ [])
-    ∷ row subcommand.Who (codes "who") (word (codes "DB") ∷ word (codes "DIR") ∷ []) false (flag (codes "mountd") ∷ [])
-    ∷ row subcommand.Put (codes "put") (word (codes "DB") ∷ word (codes "NAME") ∷ word (codes "FILE") ∷ []) false (required_option (codes "base") ∷ required_option (codes "caller") ∷ option (codes "key") ∷ option (codes "key-file") ∷ [])
-    ∷ row subcommand.Impact (codes "impact") (word (codes "DB") ∷ word (codes "NAME") ∷ optional_word (codes "FILE") ∷ []) false (flag (codes "all") ∷ flag (codes "proposal") ∷ [])
-    ∷ row subcommand.Audit (codes "audit") (word (codes "DB") ∷ word (codes "EXPECTATIONS") ∷ optional_word (codes "NAME") ∷ optional_word (codes "FILE") ∷ []) false (flag (codes "proposal") ∷ flag (codes "json") ∷ [])
-    ∷ row subcommand.Log (codes "log") (word (codes "DB") ∷ word (codes "NAME") ∷ []) false []
-    ∷ row subcommand.Cat (codes "cat") (word (codes "DB") ∷ word (codes "NAME") ∷ []) false (option (codes "rev") ∷ [])
-    ∷ row subcommand.Proposal (codes "proposal") (word (codes "DB") ∷ word (codes "NAME") ∷ []) false []
-    ∷ row subcommand.Files (codes "files") (word (codes "DB") ∷ []) false []
+    ∷ row subcommand.Ask (codes "ask") (word (codes "DB") ∷ word (codes "HOST") ∷ word (codes "DIR") ∷ []) false (option (codes "as") ∷ flag (codes "why") ∷ flag (codes "mountd") ∷ flag (codes "json") ∷ [])
+    ∷ row subcommand.Show (codes "show") (word (codes "DB") ∷ word (codes "HOST") ∷ []) false (flag (codes "json") ∷ [])
+    ∷ row subcommand.Exports (codes "exports") (word (codes "DB") ∷ []) false (flag (codes "terms") ∷ flag (codes "json") ∷ [])
+    ∷ row subcommand.Who (codes "who") (word (codes "DB") ∷ word (codes "DIR") ∷ []) false (flag (codes "mountd") ∷ flag (codes "json") ∷ [])
+    ∷ row subcommand.Put (codes "put") (word (codes "DB") ∷ word (codes "NAME") ∷ optional_word (codes "FILE") ∷ []) false (option (codes "proposal") ∷ required_option (codes "base") ∷ required_option (codes "caller") ∷ option (codes "key") ∷ option (codes "key-file") ∷ [])
+    ∷ row subcommand.Impact (codes "impact") (word (codes "DB") ∷ word (codes "NAME") ∷ optional_word (codes "FILE") ∷ []) false (flag (codes "all") ∷ flag (codes "proposal") ∷ flag (codes "json") ∷ [])
+    ∷ row subcommand.Audit (codes "audit") (word (codes "DB") ∷ word (codes "EXPECTATIONS") ∷ optional_word (codes "NAME") ∷ optional_word (codes "FILE") ∷ []) false (flag (codes "proposal") ∷ flag (codes "json") ∷ flag (codes "sarif") ∷ [])
+    ∷ row subcommand.Log (codes "log") (word (codes "DB") ∷ word (codes "NAME") ∷ []) false (flag (codes "json") ∷ [])
+    ∷ row subcommand.Cat (codes "cat") (word (codes "DB") ∷ word (codes "NAME") ∷ []) false (option (codes "rev") ∷ flag (codes "json") ∷ [])
+    ∷ row subcommand.Proposal (codes "proposal") (word (codes "DB") ∷ word (codes "NAME") ∷ []) false (flag (codes "json") ∷ [])
+    ∷ row subcommand.Files (codes "files") (word (codes "DB") ∷ []) false (flag (codes "json") ∷ [])
     ∷ row subcommand.Report (codes "report") (word (codes "DB") ∷ []) false []
     ∷ row subcommand.Write (codes "write") (word (codes "DB") ∷ word (codes "DIR") ∷ []) false []
     ∷ row subcommand.Copy (codes "copy") (word (codes "DB") ∷ word (codes "FILE") ∷ []) false []

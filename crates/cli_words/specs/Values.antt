@@ -1,7 +1,8 @@
--- What the words of a command stand for: an address, a path, the mount points of the file systems, a credential, a number.
--- (this project's own)
-use Rattle.std.specs.Prelude.{◌≡◌, ℕ, ◌==◌, Bool, not, codes, List, Option, Some, None, Result, Ok, Err, find, is_ok, if◌then◌else◌, option_and_then}
-use Rattle.std.specs.List.{filter_map}
+-- What the words of a command stand for: an address, a path, the mount points of the file systems, a credential, a
+-- digest, a number. (this project's own)
+use Rattle.std.specs.Prelude.{◌≡◌, ℕ, ◌==◌, ◌&&◌, Bool, not, codes, length, List, Option, Some, None, Result, Ok, Err, find, is_ok, if◌then◌else◌, option_and_then}
+use Rattle.std.specs.Char.{is_ascii_hexdigit, is_ascii_uppercase}
+use Rattle.std.specs.List.{filter_map, list_all}
 use Rattle.std.specs.Result.{result_ok}
 use Rattle.std.specs.String.{string_bytes}
 use Rattle.desk_text.specs.Address.{number_of, read_addr}
@@ -71,6 +72,14 @@ revision_number word = read_decimal 2147483647 word
 -- the failure names this argument, which is not such a number; out of memory says nothing
 abbrev pub IsBadNumber : List ℕ → List ℕ → Failure → Type 0
 IsBadNumber argument word other = IsRefusal argument word (fault.Number 0 2147483647) other
+
+-- a hexadecimal digit, and no capital letter
+abbrev pub is_small_digit : ℕ → Bool
+is_small_digit b = is_ascii_hexdigit b && not (is_ascii_uppercase b)
+
+-- a word is a digest of a text, as it is told: 64 hexadecimal digits, the letters small
+abbrev pub is_digest : List ℕ → Bool
+is_digest word = length word == 64 && list_all is_small_digit word
 
 -- the number of a port that a word writes: a decimal up to 65535 that is not 0
 abbrev pub port_number : List ℕ → Option ℕ

@@ -137,10 +137,22 @@ const GIVEN_EXPECTATIONS: Argument = Argument {
     help: "The text of the expectations; - is standard input",
 };
 
+const JSON: Argument = Argument {
+    name: "json",
+    kind: Kind::Flag,
+    help: "Prints the answer as one compact JSON object",
+};
+
 const BREACHES_JSON: Argument = Argument {
     name: "json",
     kind: Kind::Flag,
     help: "Prints what is broken as one compact JSON list",
+};
+
+const BREACHES_SARIF: Argument = Argument {
+    name: "sarif",
+    kind: Kind::Flag,
+    help: "Prints what is broken as a log of SARIF 2.1.0, for code hosts",
 };
 
 const DB: Argument = Argument {
@@ -209,6 +221,7 @@ pub const COMMANDS: &[CommandRow] = &[
             },
             WHY,
             MOUNTD,
+            JSON,
         ],
     },
     CommandRow {
@@ -268,7 +281,7 @@ pub const COMMANDS: &[CommandRow] = &[
         name: "clients",
         words: &[GIVEN_FILE, GIVEN_CLIENTS_DIR, GIVEN_MOUNTS],
         tables: true,
-        options: &[MOUNTD],
+        options: &[MOUNTD, JSON],
     },
     CommandRow {
         command: Subcommand::Lists,
@@ -301,14 +314,14 @@ pub const COMMANDS: &[CommandRow] = &[
             GIVEN_MOUNTS,
         ],
         tables: true,
-        options: &[ALL],
+        options: &[ALL, JSON],
     },
     CommandRow {
         command: Subcommand::Test,
         name: "test",
         words: &[GIVEN_FILE, GIVEN_EXPECTATIONS, GIVEN_MOUNTS],
         tables: true,
-        options: &[BREACHES_JSON],
+        options: &[BREACHES_JSON, BREACHES_SARIF],
     },
     CommandRow {
         command: Subcommand::Init,
@@ -337,6 +350,7 @@ pub const COMMANDS: &[CommandRow] = &[
             },
             WHY,
             MOUNTD,
+            JSON,
         ],
     },
     CommandRow {
@@ -344,25 +358,28 @@ pub const COMMANDS: &[CommandRow] = &[
         name: "show",
         words: &[DB, HOST],
         tables: false,
-        options: &[],
+        options: &[JSON],
     },
     CommandRow {
         command: Subcommand::Exports,
         name: "exports",
         words: &[DB],
         tables: false,
-        options: &[Argument {
-            name: "terms",
-            kind: Kind::Flag,
-            help: "Adds the terms on which each is exported, as terms prints them",
-        }],
+        options: &[
+            Argument {
+                name: "terms",
+                kind: Kind::Flag,
+                help: "Adds the terms on which each is exported, as terms prints them",
+            },
+            JSON,
+        ],
     },
     CommandRow {
         command: Subcommand::Who,
         name: "who",
         words: &[DB, CLIENTS_DIR],
         tables: false,
-        options: &[MOUNTD],
+        options: &[MOUNTD, JSON],
     },
     CommandRow {
         command: Subcommand::Put,
@@ -372,12 +389,17 @@ pub const COMMANDS: &[CommandRow] = &[
             NAME,
             Argument {
                 name: "FILE",
-                kind: Kind::Word,
+                kind: Kind::MaybeWord,
                 help: "The new text; - is standard input",
             },
         ],
         tables: false,
         options: &[
+            Argument {
+                name: "proposal",
+                kind: Kind::Valued("DIGEST"),
+                help: "Takes the pending proposal of the file for the new text, if its SHA-256 is this",
+            },
             Argument {
                 name: "base",
                 kind: Kind::Needed("N"),
@@ -420,6 +442,7 @@ pub const COMMANDS: &[CommandRow] = &[
                 kind: Kind::Flag,
                 help: "Takes the pending proposal of the file for the new text",
             },
+            JSON,
         ],
     },
     CommandRow {
@@ -447,6 +470,7 @@ pub const COMMANDS: &[CommandRow] = &[
                 help: "Takes the pending proposal of the file for that text",
             },
             BREACHES_JSON,
+            BREACHES_SARIF,
         ],
     },
     CommandRow {
@@ -454,32 +478,35 @@ pub const COMMANDS: &[CommandRow] = &[
         name: "log",
         words: &[DB, NAME],
         tables: false,
-        options: &[],
+        options: &[JSON],
     },
     CommandRow {
         command: Subcommand::Cat,
         name: "cat",
         words: &[DB, NAME],
         tables: false,
-        options: &[Argument {
-            name: "rev",
-            kind: Kind::Valued("N"),
-            help: "The number of the revision; the newest without it",
-        }],
+        options: &[
+            Argument {
+                name: "rev",
+                kind: Kind::Valued("N"),
+                help: "The number of the revision; the newest without it",
+            },
+            JSON,
+        ],
     },
     CommandRow {
         command: Subcommand::Proposal,
         name: "proposal",
         words: &[DB, NAME],
         tables: false,
-        options: &[],
+        options: &[JSON],
     },
     CommandRow {
         command: Subcommand::Files,
         name: "files",
         words: &[DB],
         tables: false,
-        options: &[],
+        options: &[JSON],
     },
     CommandRow {
         command: Subcommand::Report,

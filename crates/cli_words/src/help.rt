@@ -157,13 +157,14 @@ pub(crate) fn help_of(command: Subcommand) -> Help {
         Subcommand::Put => Help {
             about: "Puts a new text of a file in force, as its next revision",
             usage: Some(
-                "exportdesk put <DB> <NAME> <FILE> --base <N> --caller <CUSTODIAN> --key-file <FILE>\n       exportdesk put <DB> <NAME> <FILE> --base <N> --caller <CUSTODIAN> --key <KEY>",
+                "exportdesk put <DB> <NAME> <FILE> --base <N> --caller <CUSTODIAN> --key-file <FILE>\n       exportdesk put <DB> <NAME> <FILE> --base <N> --caller <CUSTODIAN> --key <KEY>\n       exportdesk put --proposal <DIGEST> --base <N> --caller <CUSTODIAN> --key-file <FILE> <DB> <NAME>",
             ),
             end: Some(
                 "NAME is custodians, filesystems, hosts, networks, passwd, group or netgroup, which site keeps, or\n\
              exports: and a mount point, as exports:/usr, which the custodians of that mount point keep. Nothing\n\
              is stored unless the site is consistent with the new text. If the mount point is guarded, the text is\n\
-             proposed; it is put in force by another of its custodians, who puts the same text with the same base.",
+             proposed; it is put in force by another of its custodians, who puts the same text with the same base,\n\
+             or that text by its DIGEST, as proposal tells it.",
             ),
         },
         Subcommand::Impact => Help {
@@ -207,8 +208,9 @@ pub(crate) fn help_of(command: Subcommand) -> Help {
             about: "Prints the text that is proposed for a guarded file",
             usage: None,
             end: Some(
-                "Standard error says who proposed it, and which revision it follows. Another custodian of the mount point\n\
-             puts it in force by a put of this text, with the number of that revision as its base.",
+                "Standard error says who proposed it, which revision it follows, and the SHA-256 of the text. Another\n\
+             custodian of the mount point puts it in force by a put of this text, or with --proposal and this\n\
+             SHA-256, with the number of that revision as its base.",
             ),
         },
         Subcommand::Files => Help {

@@ -1,7 +1,7 @@
-//! Parses the words of a command that are more than texts: HOST, DIR, MOUNT, CRED, and numbers. A fault names the argument
-//! as the usage does.
+//! Parses the words of a command that are more than texts: HOST, DIR, MOUNT, CRED, DIGEST, and numbers. A fault names the
+//! argument as the usage does.
 
-ghost use Rattle.std.specs.Prelude.{◌≡◌, MatchResult, None, Ok, Some, codes, map};
+ghost use Rattle.std.specs.Prelude.{◌≡◌, MatchResult, None, Ok, Some, codes, false, map, true};
 ghost use Rattle.std.specs.Option.{option_map};
 ghost use Rattle.desk_text.specs.Address.{number_of, read_addr};
 ghost use Rattle.desk_text.specs.Lines.{IsReadable};
@@ -10,7 +10,8 @@ ghost use Rattle.desk_tables.specs.CredentialText.{read_credential as read_cred}
 ghost use Rattle.desk_tables.specs.FileSystems.{IsTableOf};
 ghost use Rattle.desk_tables.specs.Groups.{read_groups};
 ghost use Rattle.desk_tables.specs.Users.{read_users};
-ghost use Rattle.cli_words.specs.Values.{AnswersArgument, AnswersOwn, IsBadArgument, IsBadCount, IsBadMount, IsBadNumber, IsBadPort, IsNoTable, IsRequest, count_number, first_bad_path, own_answer, paths_of, port_number, revision_number};
+ghost use Rattle.cli_words.specs.Values.{AnswersArgument, AnswersOwn, IsBadArgument, IsBadCount, IsBadMount, IsBadNumber, IsBadPort, IsNoTable, IsRequest, count_number, first_bad_path, is_digest, is_small_digit, own_answer, paths_of, port_number, revision_number};
+ghost use Rattle.cli_output.specs.Failure.{IsRefusal};
 ghost use Rattle.cli_output.specs.declared.bad_argument.ArgumentFault.TheVariants as fault;
 
 use cli_output::bad_argument::ArgumentFault;
@@ -71,6 +72,32 @@ pub fn read_number(alloc: Global, argument: &'static str, word: &str) -> Result<
             ArgumentFault::Number(0, 2_147_483_647),
         )),
     }
+}
+
+/// Tests whether a word is a digest of a text.
+pub fn check_digest(alloc: Global, argument: &'static str, word: &str) -> Result<(), Failure>
+    ensures { MatchResult result (λ fine. is_digest word.now ≡ true)
+        (λ failure. (is_digest word.now ≡ false) × IsRefusal argument.now word.now fault.Digest failure) }
+{
+    if is_digest(word) {
+        Ok(())
+    } else {
+        Err(Failure::of_argument(alloc, argument, word, ArgumentFault::Digest))
+    }
+}
+
+/// Tests whether a word is 64 hexadecimal digits, the letters small.
+fn is_digest(word: &str) -> bool
+    ensures { result ≡ is_digest word.now }
+{
+    word.len() == 64 && word.as_bytes().iter().all(|b| is_small_digit(*b))
+}
+
+/// Tests whether a byte is a hexadecimal digit, and no capital letter.
+fn is_small_digit(b: u8) -> bool
+    ensures { result ≡ is_small_digit b }
+{
+    b.is_ascii_hexdigit() && !b.is_ascii_uppercase()
 }
 
 /// Parses the number of a port: from 1 to 65,535.

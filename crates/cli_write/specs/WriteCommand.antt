@@ -13,7 +13,7 @@ use Rattle.desk_core.specs.Site.{IsConsistent, site_in}
 use Rattle.desk_core.specs.declared.edit.Refusal.TheVariants.{Fault as SiteRefusal, TooLarge}
 use Rattle.desk_store.specs.Desk.{History}
 use Rattle.desk_store.specs.Open.{IsOurs, IsProject}
-use Rattle.desk_service.specs.Readable.{by_second}
+use Rattle.desk_service.specs.ReadableByInit.{by_second}
 use Rattle.desk_service.specs.declared.refused.Refused.TheVariants as refused
 use Rattle.cli_output.specs.Printed.{PrintsText}
 use Rattle.cli_output.specs.declared.failure.Failure.{Failure}

@@ -1,6 +1,7 @@
 """What a database holds: of each file the newest text, with its number, author and approver, and what is proposed."""
 
 import pathlib
+import typing
 
 from reference import lines
 from reference.definitions import fs_of, printed
@@ -8,13 +9,24 @@ from reference.escapes import unescaped
 from reference.readings import FILES, file_system_words, path_of, read_site
 
 
+class Revision(typing.NamedTuple):
+    """A revision of a file, with who approved it, or None."""
+
+    number: int
+    author: str
+    approver: typing.Optional[str]
+    profile: int
+    text: str
+
+
 class Desk:
-    """The texts of a database: of each file the newest, with its number and author, and who approved it."""
+    """The texts of a database: of each file the newest, with its number and author, and who approved it; and all its revisions."""
 
     def __init__(self, texts):
         self.texts, self.authors = texts, {name: (1, "site") for name in texts}
         self.approvers, self.proposals = {}, {}
         self.profiles = {}  # of those that are not of profile 2
+        self.history = {name: [Revision(1, "site", None, 2, text)] for name, text in texts.items()}
 
     def number(self, name):
         return self.authors.get(name, (0, ""))[0]
@@ -29,6 +41,13 @@ class Desk:
         self.authors[name] = self.number(name) + 1, author if is_approved else caller
         self.approvers[name] = caller if is_approved else None
         self.texts[name] = text
+        self.profiles.pop(name, None)
+        self.history.setdefault(name, []).append(Revision(*self.authors[name], self.approvers[name], 2, text))
+
+    def move_to_profile_one(self):
+        """Makes all revisions those of a database of version 1."""
+        self.profiles = dict.fromkeys(self.texts, 1)
+        self.history = {name: [found._replace(profile=1) for found in kept] for name, kept in self.history.items()}
 
     def edit(self, name, text, caller):
         """Stores a text, or proposes it: that of a guarded file, unless another custodian has proposed it."""
@@ -58,11 +77,18 @@ class Desk:
         held = {*self.authors, *self.proposals}
         return [*FILES, *sorted((name for name in held if name not in FILES), key=lambda name: name.encode())]
 
+    def knows(self, name):
+        """Whether it is one of the seven files, or the exports file of a mount point that is listed."""
+        return name in FILES or name in {f"exports:{printed(path_of(mount))}" for mount, *_ in self.filesystems()}
+
+    def mark(self, name):
+        """The mark of a file: that it is guarded, or that its mount point is not listed; empty if it has none."""
+        return "guarded" if name in self.guarded() else "" if self.knows(name) else "unlisted"
+
     def listing(self):
-        """Its files, those of file systems that are not listed or guarded marked, with their proposals."""
-        mounts = {f"exports:{printed(mount)}" for mount in read_site(self.texts).mounts}
+        """Its files with their marks and their proposals."""
         for name in self.files():
-            mark = " guarded" if name in self.guarded() else "" if name in FILES or name in mounts else " unlisted"
+            mark = f" {self.mark(name)}" if self.mark(name) else ""
             if name in self.authors:
                 number, author = self.authors[name]
                 yield f"{name} rev {number} {author}{mark}\n"

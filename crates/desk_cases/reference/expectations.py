@@ -1,13 +1,16 @@
 """What `test` and `audit` answer: a text of expectations of a site, read line by line, and what is reported of it on standard
-output, as text or as JSON, and on standard error.
+output, as text, as JSON or as a log of SARIF, and on standard error.
 """
+
+import re
 
 from reference.definitions import (
     RULES, Expectation, allows, dotted, expectation, in_order, is_meant, is_under, names_of, printed, runs, scope_places,
-    verdict,
+    span_of, verdict,
 )  # fmt: skip
-from reference.findings import finding_text, printed_json
+from reference.findings import finding_text, printed_json, shown, shown_letter
 from reference.lines import logical_lines, open_quote, words_of
+from reference.sarif import expectations_log, told
 from reference.server import repeated_clients, server_verdict
 
 SENTENCES = {
@@ -22,6 +25,8 @@ SENTENCES = {
     "UnknownName": "is not a known netgroup or host: correct it, write blanks between names, or give the tables that have it",
     "Nobody": "is whom the line is about, and that is nobody: no address is meant",
 }
+# The line that a verdict names.
+LINE = re.compile(r"^(?:granted|denied 3 NotListed .*) ?line (\d+)")
 OUTSIDE = "is in no file system, nor is anything below it"
 
 
@@ -29,7 +34,7 @@ OUTSIDE = "is in no file system, nor is anything below it"
 
 
 class Fault:
-    """The first rule that the first faulty line of a text breaks, and the place of the slice at fault."""
+    """The first rule that a faulty line of a text breaks, and the place of the slice at fault."""
 
     def __init__(self, line, rule, place):
         self.line, self.rule, self.place = line, rule, place
@@ -37,14 +42,10 @@ class Fault:
 
 
 def read_expectations(text, site):
-    """What the lines of a text expect, whose names are those of a site; or the fault of the first line that has one."""
-    found = []
-    for line in logical_lines(text):
-        read = read_line(line, site)
-        if isinstance(read, Fault):
-            return read
-        found.append(read)
-    return found
+    """What the lines of a text expect, whose names are those of a site, and the faults of the lines that have one."""
+    found = [read_line(line, site) for line in logical_lines(text)]
+    faults = [read for read in found if isinstance(read, Fault)]
+    return [read for read in found if read not in faults], faults
 
 
 def read_line(line, site):
@@ -96,13 +97,17 @@ def broken(site, expectations):
 
 def report_text(file, found, count):
     """The broken expectations, and how many there are of all."""
-    text = ""
-    for expected, sections in found:
-        text += f"{file}:{expected.number}: broken: {' '.join(expected.words)}\n"
-        for heading, ranges in sections:
-            text += f"== {heading}\n"
-            text += "".join(f"{range_text(*found_range)}\n" for found_range in ranges)
+    text = "".join(f"{file}:{expected.number}: {broken_text(expected, sections)}" for expected, sections in found)
     return text + f"{count} expectation{'' if count == 1 else 's'}, {len(found)} broken\n"
+
+
+def broken_text(expected, sections):
+    """A broken expectation, with where and for whom."""
+    text = f"broken: {' '.join(expected.words)}\n"
+    for heading, ranges in sections:
+        text += f"== {heading}\n"
+        text += "".join(f"{range_text(*found_range)}\n" for found_range in ranges)
+    return text
 
 
 def range_text(first, last, found, by_server):
@@ -136,6 +141,41 @@ def object_of(file, expected, heading, found_range):
     }
 
 
+def report_log(site, file, exports, found):
+    """The same as a log, whose results are the broken expectations. The lines that break one are those of the exports text of this path,
+    or, in a database, of the exports file of their file system."""
+    results = []
+    for expected, sections in found:
+        text = broken_text(expected, sections).removesuffix("\n")
+        text = "".join(letter if letter in "\t\n" else shown_letter(letter) for letter in text)
+        lines = dict.fromkeys(
+            (exports or f"exports:{mount_of(site, heading)}", int(line))
+            for heading, ranges in sections
+            for _, _, verdict_line, _ in ranges
+            for line in LINE.findall(verdict_line)
+        )
+        results.append(told("broken/1", text, file, {"startLine": expected.number}, lines))
+    return expectations_log(SENTENCES, results) + "\n"
+
+
+def mount_of(site, heading):
+    """The mount point of the file system of a place."""
+    path = heading.removeprefix("other directories of ")
+    mounts = [mount for mount in map(printed, site.mounts) if f"{path}/".startswith(mount.rstrip("/") + "/")]
+    return max(mounts, key=len, default=None)
+
+
+def faults_log(file, faults):
+    """The faults of a text as a log."""
+    results = []
+    for fault in faults:
+        start = fault.place.start + 1
+        region = {"startLine": fault.place.part.number, "startColumn": start, "endColumn": start + len(fault.place.slice)}
+        number = RULES.index(fault.rule) + 1
+        results.append(told(f"expectations/{number}", f'"{shown(fault.place.slice)}" {SENTENCES[fault.rule]}', file, region))
+    return expectations_log(SENTENCES, results) + "\n"
+
+
 def outside_text(site, file, expectations):
     """A line for each directory of which neither it nor anything below it is in a file system: it may be misspelled, and what is
     forbidden there holds whatever the site says."""
@@ -145,6 +185,18 @@ def outside_text(site, file, expectations):
         for path, _ in expected.scopes
         if not any(is_under(path, mount) or is_under(mount, path) for mount in site.mounts)
     )
+
+
+def host_bits_text(file, expectations):
+    """A line for each network that is written with host bits, with the network that is meant."""
+    text = ""
+    for expected in expectations:
+        for name in [*(expected.whom or []), *expected.but]:
+            address, slash, prefix = name.partition("/")
+            first = dotted(span_of(name)[0]) if slash else None
+            if slash and first != ".".join([*address.split("."), "0", "0", "0"][:4]):
+                text += f"{file}:{expected.number}: {name} has host bits: {first}/{prefix} is meant\n"
+    return text
 
 
 def left_out_text(site):
@@ -161,31 +213,39 @@ def left_out_text(site):
 # ---- the commands
 
 
-def fault_texts(file, fault):
-    """What is printed of a text with a fault on standard output, and on standard error."""
-    rule = f"{RULES.index(fault.rule) + 1} {fault.rule}"
-    return f"fault expectations {fault.text}\n", finding_text(file, fault.place, rule, SENTENCES[fault.rule])
+def fault_texts(file, faults):
+    """What is printed of a text with these faults on standard output, which names the first, and on standard error."""
+    told = ""
+    for fault in faults:
+        rule = f"{RULES.index(fault.rule) + 1} {fault.rule}"
+        told += finding_text(file, fault.place, rule, SENTENCES[fault.rule])
+    return f"fault expectations {faults[0].text}\n", told
 
 
-def answer(site, file, text, is_json=False):
+def answer(site, file, text, form, exports):
     """What is printed of the expectations in this text of a site on standard output, on standard error, and the status: 0 if all
-    hold, 1 if one is broken, and 3 if the text has a fault."""
-    expectations = read_expectations(text, site)
-    if isinstance(expectations, Fault):
-        return *fault_texts(file, expectations), 3
+    hold, 1 if one is broken, and 3 if the text has a fault. A log names the exports text of this path, or those of a database."""
+    expectations, faults = read_expectations(text, site)
+    if faults:
+        told, beside = fault_texts(file, faults)
+        return faults_log(file, faults) if form == "sarif" else told, beside, 3
     found = list(broken(site, expectations))
-    text = report_json(file, found) if is_json else report_text(file, found, len(expectations))
-    return text, outside_text(site, file, expectations) + left_out_text(site), 1 if found else 0
+    if form == "sarif":
+        text = report_log(site, file, exports, found)
+    else:
+        text = report_json(file, found) if form == "json" else report_text(file, found, len(expectations))
+    beside = outside_text(site, file, expectations) + host_bits_text(file, expectations) + left_out_text(site)
+    return text, beside, 1 if found else 0
 
 
 def case_answer(question, site, text, names):
     """The answer to `expect` or `outside` in a file of cases, where names are looked up in tables of their own: what is reported,
     or of a text with a fault where the slice at fault is, in bytes."""
-    found = read_expectations(text, names)
-    if isinstance(found, Fault):
-        place = found.place
+    found, faults = read_expectations(text, names)
+    if faults:
+        fault, place = faults[0], faults[0].place
         first, last = (len(place.part.whole[:at].encode()) for at in (place.start, place.end))
-        return f"fault {found.text} at {place.part.number}:{first}-{last}"
+        return f"fault {fault.text} at {place.part.number}:{first}-{last}"
     if question == "outside":
         return outside_text(site, "expectations", found)
     return report_text("expectations", list(broken(site, found)), len(found))

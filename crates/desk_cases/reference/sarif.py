@@ -1,4 +1,4 @@
-"""A log of SARIF, made of findings as `check --json` prints them."""
+"""Logs of SARIF: made of findings as `check --json` prints them, and of what is told of expectations."""
 
 import json
 import urllib.parse
@@ -64,6 +64,9 @@ RULES = [
 OF_LINES = ["Shadowed", "Repeated", "NoClient", "EveryAddress", "WritableByAll", "RootForMany"]
 OF_LINES += ["ServerGrantsMore", "Backslash", "V4Line", "RepeatedClient"]
 OPINIONS = ["WritableByAll", "RootForMany", "V4Line"]
+# What is said of an expectation that is broken, and of a line that breaks it.
+BROKEN = "is broken: the exports allow what it forbids, or do not allow what it expects"
+BREAKS = "a line that breaks it"
 # What is constant, with the version that `exportdesk --version` prints.
 SCHEMA = "https://docs.oasis-open.org/sarif/sarif/v2.1.0/errata01/os/schemas/sarif-schema-2.1.0.json"
 VERSION = "1.1.0"
@@ -87,6 +90,11 @@ def uri_of(path):
     return ("/." if path.startswith("//") else "") + urllib.parse.quote(path.encode(errors="surrogateescape"), safe="/")
 
 
+def doubled(text):
+    """A text of a message: a single brace would be that of a placeholder."""
+    return text.replace("{", "{{").replace("}", "}}")
+
+
 def location(path, region):
     return {"physicalLocation": {"artifactLocation": {"uri": uri_of(path)}, "region": region}}
 
@@ -98,7 +106,7 @@ def result(finding):
     found = {
         "ruleId": rule_id(finding["rule"], finding["name"]),
         "level": "note" if finding["name"] in OPINIONS else {"fault": "error", "warning": "warning"}[finding["kind"]],
-        "message": {"text": finding["text"].replace("{", "{{").replace("}", "}}")},
+        "message": {"text": doubled(finding["text"])},
         "locations": [location(finding["path"], region)],
     }
     if "other" in finding:
@@ -107,9 +115,31 @@ def result(finding):
     return found
 
 
-def log_text(findings):
-    """The log of findings, on a line."""
-    driver = {"name": "exportdesk", "version": VERSION, "rules": [rule_object(*rule) for rule in RULES]}
-    run = {"tool": {"driver": driver}, "columnKind": "unicodeCodePoints", "results": [result(finding) for finding in findings]}
+def log_of(rules, results):
+    """A log with these rules and results, on a line."""
+    driver = {"name": "exportdesk", "version": VERSION, "rules": rules}
+    run = {"tool": {"driver": driver}, "columnKind": "unicodeCodePoints", "results": results}
     log = {"$schema": SCHEMA, "version": "2.1.0", "runs": [run]}
     return json.dumps(log, ensure_ascii=False, separators=(",", ":"), sort_keys=True)
+
+
+def log_text(findings):
+    """The log of findings."""
+    return log_of([rule_object(*rule) for rule in RULES], [result(finding) for finding in findings])
+
+
+# ---- expectations
+
+
+def expectations_log(rules, results):
+    """The log of expectations, with a rule for each of these names and sentences, and one for what is broken."""
+    objects = [rule_object("expectations", number, *rule) for number, rule in enumerate(rules.items(), 1)]
+    return log_of([*objects, rule_object("broken", 1, "Broken", BROKEN)], results)
+
+
+def told(rule, text, path, region, lines=None):
+    """What is told at a region of a text of expectations, with the lines of exports texts that break it, if it is about such."""
+    found = {"ruleId": rule, "level": "error", "message": {"text": doubled(text)}, "locations": [location(path, region)]}
+    if lines is not None:
+        found["relatedLocations"] = [{"message": {"text": BREAKS}, **location(file, {"startLine": line})} for file, line in lines]
+    return found

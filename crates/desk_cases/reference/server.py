@@ -4,7 +4,7 @@ which all lines have one weight, each directory that a line writes, and one that
 """
 
 from reference.definitions import (
-    addresses_of, dotted, fs_of, lists, printed, ranges_text, runs, selected, steady_blocks, unwritten, verdict, weight,
+    addresses_of, dotted, fs_of, lists, printed, runs, selected, steady_blocks, unwritten, verdict, weight,
 )  # fmt: skip
 
 
@@ -117,9 +117,9 @@ def first_wider_note(site, path):
     return ""
 
 
-def who_text(site, path):
+def who(site, path):
     """The longest ranges that have one verdict of the server."""
-    return ranges_text(runs(lambda address: server_verdict(site, address, path), [site], path))
+    return runs(lambda address: server_verdict(site, address, path), [site], path)
 
 
 def lines_text(count):

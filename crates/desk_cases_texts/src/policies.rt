@@ -45,7 +45,7 @@ fn read(alloc: Global, site: &mut Site, out: &mut String, text: &str) -> Asked
     let Some(filesystems) = &site.filesystems else {
         return Ok(false);
     };
-    let filesystems = filesystems.copy()?;
+    let filesystems = filesystems.share()?;
     let asked = set(alloc, site, out, &filesystems, text);
     drop(filesystems);
     asked
@@ -119,7 +119,7 @@ fn policy_of(
 ) -> Result<Policy, ReadError<LineFault<Rule>>>
     requires { IsReadable text.now }
 {
-    let own = filesystems.copy()?;
+    let own = filesystems.share()?;
     match read_whole(alloc, text, written) {
         Ok(entries) => Ok(policy_with(alloc, own, entries)?),
         Err(error) => {

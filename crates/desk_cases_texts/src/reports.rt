@@ -147,7 +147,7 @@ fn report_rows<V: PolicyView + Drop>(
         drop(rows);
         return Ok(false);
     }
-    let policy = Policy::of_lines(alloc, filesystems.copy()?, fs, rows)?;
+    let policy = Policy::of_lines(alloc, filesystems.share()?, fs, rows)?;
     match V::build(alloc, policy) {
         Ok(lines) => {
             let report = lines_report(alloc, before, &lines, fs, all)?;

@@ -123,7 +123,7 @@ fn of_whole(alloc: Global, site: &mut Site, out: &mut String, question: &str, te
     let Some(filesystems) = &site.filesystems else {
         return Ok(false);
     };
-    let filesystems = filesystems.copy()?;
+    let filesystems = filesystems.share()?;
     let asked = if question == "whole" {
         set_whole(alloc, site, out, &filesystems, text)
     } else {
@@ -178,7 +178,7 @@ fn whole(
 ) -> Result<Policy, ReadError<SiteFault>>
     requires { IsReadable text.now }
 {
-    parse_whole(alloc, profile, text, filesystems.copy()?)
+    parse_whole(alloc, profile, text, filesystems.share()?)
 }
 
 /// Builds a view of a policy, if that was read.

@@ -7,7 +7,7 @@ use Rattle.desk_findings.specs.declared.check_text.Gathered.{Gathered}
 use Rattle.desk_findings.specs.declared.finding.Finding.{Finding}
 use Rattle.desk_check.specs.FindingJson.{findings_json, heard_json}
 use Rattle.desk_check.specs.FindingPrints.{findings_text, heard_text}
-use Rattle.desk_check.specs.Ignored.{heard, ignored_count}
+use Rattle.desk_check.specs.IgnoredWarnings.{heard, ignored_count}
 use Rattle.desk_check.specs.declared.check_report.CheckForm.{CheckForm}
 use Rattle.desk_check.specs.declared.check_report.Checked.{Checked}
 

@@ -6,7 +6,7 @@ ghost use Rattle.desk_check.specs.CheckReport.{Reports, ReportsHeard, ReportsRes
 
 use crate::finding_json::{findings_json, heard_json};
 use crate::finding_prints::{findings_text, heard_text};
-use crate::ignored::{count_ignored, take_ignored};
+use crate::ignored_warnings::{count_ignored, take_ignored};
 use desk_findings::{Finding, Gathered, has_fault};
 use std::alloc::{AllocError, Global};
 

@@ -14,7 +14,7 @@ mod check_report;
 mod finding_json;
 mod finding_prints;
 mod hints;
-mod ignored;
+mod ignored_warnings;
 mod told_fault;
 mod told_site;
 
@@ -22,6 +22,6 @@ pub use check_report::{CheckForm, Checked, passes, report_found, report_heard};
 pub use desk_shown::push_shown;
 pub use finding_json::{add_number, add_text, findings_json, push_json};
 pub use finding_prints::{finding_text, findings_text, push_marked_line, push_message, push_word};
-pub use ignored::{are_warnings, is_ignored, numbers_in, take_ignored};
-pub use told_fault::{tell_fault, tell_split_fault};
+pub use ignored_warnings::{are_warnings, is_ignored, numbers_in, take_ignored};
+pub use told_fault::{fault_json, split_fault_json, tell_fault, tell_split_fault};
 pub use told_site::tell_site_fault;

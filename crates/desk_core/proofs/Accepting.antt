@@ -8,13 +8,14 @@ use Rattle.desk_text.specs.declared.reading.ReadError.{ReadError}
 use Rattle.desk_text.specs.declared.reading.ReadError.TheVariants.{Fault, Memory}
 use Rattle.desk_policy.specs.Policy.{Content}
 use Rattle.desk_policy.specs.Site.{SiteTexts}
+use Rattle.desk_policy.specs.View.{HasFault}
 use Rattle.desk_policy.specs.declared.row.Row.{Row}
 use Rattle.desk_policy.specs.declared.site_fault.SiteFault.{SiteFault}
 use Rattle.desk_core.specs.Edit.{Edit, revision_of}
 use Rattle.desk_core.specs.Head.{CanBeKept, Revision, last_revision, longest_revision, newest_in, newest_number, put}
 use Rattle.desk_core.specs.History.{entry_file}
 use Rattle.desk_core.specs.Judging.{AnswersBySite, answer_of, entry_of, first_case}
-use Rattle.desk_core.specs.PrivateState.{Accepts, MakesChange, refusal_of}
+use Rattle.desk_core.specs.PrivateState.{Accepts, MakesChange, refusal_of, site_with}
 use Rattle.desk_core.specs.Site.{IsConsistent, revision_text, site_in}
 use Rattle.desk_core.specs.Standing.{Standing, standing_in}
 use Rattle.desk_core.specs.State.{IsChangeOf, PutsEntry, PutsRevision, PutsSite, standing}
@@ -24,6 +25,7 @@ use Rattle.desk_core.specs.declared.entry.Entry.TheVariants as entry
 use Rattle.desk_core.specs.declared.head.Head.{Head}
 use Rattle.desk_core.specs.declared.proposal.Proposal.{Proposal}
 use Rattle.desk_core.proofs.FirstCase.{without_case}
+use Rattle.desk_core.proofs.Foreseeing.{foreseen_sites_are_judged}
 use Rattle.desk_core.proofs.Seconds.{ways}
 use Rattle.desk_core.proofs.SiteLemmas.{same_site}
 
@@ -70,8 +72,9 @@ module _ {V : Type 0} (in_force : V → Content) (state : Kept V) (e : Edit) (re
       }
 
   pub accepted : All CanBeKept state.heads → first_case (standing state) e ≡ None → ready.entry ≡ entry_of (standing state) e → length state.heads < ready.room → length state.proposals < ready.proposal_room
-      → IsChangeOf (in_force state.view).table e.file ready.change → PutsSite in_force state ready.change own_site → Accepts in_force state e (Ok ready)
-  accepted kept none is room proposal_room own site =
+      → IsChangeOf (in_force state.view).table e.file ready.change → PutsSite in_force state ready.change (site_with state e.file e.text) → Accepts in_force state e (Ok ready)
+  accepted kept none is room proposal_room own foreseen =
+      let site : PutsSite in_force state ready.change own_site = subst (PutsSite in_force state ready.change) (foreseen_sites_are_judged (newest_in state.heads) e) foreseen in
       let w = within state.heads state.proposals e kept none in
       let P : Entry → Type 0 = PutsEntry in_force state ready in
       let puts_own : P (entry_of (standing state) e) = elim (ways (standing state) e) [
@@ -87,6 +90,6 @@ module _ {V : Type 0} (in_force : V → Content) (state : Kept V) (e : Edit) (re
 
 -- the fault of the site with the edit's text
 pub not_accepted : {V P : Type 0} (in_force : V → Content) (part_rows : P → List Row) (state : Kept V) (e : Edit) (error : ReadError SiteFault)
-    → MakesChange in_force part_rows state e.file (site_in (put (newest_in state.heads) (revision_of e))) (Err error) → Accepts in_force state e (Err (refusal_of error))
-not_accepted in_force part_rows state e (Fault fault) has = (fault, refl, has)
+    → MakesChange in_force part_rows state e.file (site_with state e.file e.text) (Err error) → Accepts in_force state e (Err (refusal_of error))
+not_accepted in_force part_rows state e (Fault fault) has = (fault, refl, subst (λ texts. HasFault texts fault) (foreseen_sites_are_judged (newest_in state.heads) e) has)
 not_accepted in_force part_rows state e Memory has = tt

@@ -18,7 +18,7 @@ use Rattle.desk_policy.specs.Parsing.{if_listed, in_file, read_after_filesystems
 use Rattle.desk_policy.specs.Policy.{Content}
 use Rattle.desk_policy.specs.Site.{SiteTexts}
 use Rattle.desk_policy.specs.SiteFault.{exports_name, table_fault}
-use Rattle.desk_policy.specs.Unlisted.{unlisted_line}
+use Rattle.desk_policy.specs.UnlistedCustodians.{unlisted_line}
 use Rattle.desk_policy.specs.declared.site_fault.SiteFault.{SiteFault}
 use Rattle.desk_policy.specs.SiteFile.{exports_place, is_of_seven}
 use Rattle.desk_core.specs.Judging.{IsFileName}

@@ -1,4 +1,4 @@
--- What an edit of one exports file changes: the lines of its file system.
+-- What another text of one exports file changes: the lines of its file system.
 use Rattle.std.proofs.Common.{◌≡◌, ◌≢◌, ◌∙◌, ◌<◌, ℕ, List, [], ◌∷◌, Some, Result, Ok, Err, ap, arith, get_or, inl, inr, length, refl, set, subst, sym}
 use Rattle.std.specs.Prelude.{slice_get}
 use Rattle.std.specs.Option.{option_map}
@@ -28,9 +28,9 @@ use Rattle.desk_policy.specs.declared.row.Row.{Row}
 use Rattle.desk_policy.specs.declared.site.ExportsText.{ExportsText}
 use Rattle.desk_policy.specs.declared.site_fault.SiteFault.{SiteFault}
 use Rattle.desk_policy.specs.SiteFile.{exports_place}
-use Rattle.desk_core.specs.Edit.{Edit, revision_of}
-use Rattle.desk_core.specs.Head.{newest_in, put}
-use Rattle.desk_core.specs.PrivateState.{AreLinesOf, MakesChange, ReadsRows}
+use Rattle.desk_core.specs.Foresight.{revision_with}
+use Rattle.desk_core.specs.Head.{newest_in}
+use Rattle.desk_core.specs.PrivateState.{AreLinesOf, MakesChange, ReadsRows, site_with}
 use Rattle.desk_core.specs.Site.{IsInForce, IsSound, policy_of, policy_read, site_in}
 use Rattle.desk_core.specs.State.{PutsSite}
 use Rattle.desk_core.specs.Views.{Kept, Lines}
@@ -85,22 +85,22 @@ module _ (former : Content) (none : HasNoContradiction former) (fs : ℕ) (rows 
     before = λ place less. consistent_elsewhere place (λ eq. omega arith);
   }
 
-module _ {V : Type 0} (law : OneFileIsReplaced) (order : TablesAreInOrder) (in_force : V → Content) (state : Kept V) (tables : SiteTables) (e : Edit) (fs : ℕ)
+module _ {V : Type 0} (law : OneFileIsReplaced) (order : TablesAreInOrder) (in_force : V → Content) (state : Kept V) (tables : SiteTables) (name body : List ℕ) (fs : ℕ)
     (holds : IsInForce (site_in (newest_in state.heads)) (in_force state.view)) (tables_are : read_site_tables (site_in (newest_in state.heads)) ≡ Ok tables)
-    (place : exports_place (in_force state.view).table e.file ≡ Some fs) where
+    (place : exports_place (in_force state.view).table name ≡ Some fs) where
   abbrev old : SiteTexts
   old = site_in (newest_in state.heads)
 
   abbrev new : SiteTexts
-  new = site_in (put (newest_in state.heads) (revision_of e))
+  new = site_with state name body
 
   abbrev content : Content
   content = in_force state.view
 
   abbrev text : ExportsText
-  text = record { profile = Two; body = e.text }
+  text = record { profile = Two; body = body }
 
-  -- the policy of the site before the edit
+  -- the policy of the site as it is
   former : (policy : Content) × (read_site old ≡ Ok policy) × HasNoContradiction policy
   former = sound_policy (read_site old) holds.consistent
 
@@ -110,7 +110,7 @@ module _ {V : Type 0} (law : OneFileIsReplaced) (order : TablesAreInOrder) (in_f
   same_rows : content.rows ≡ former.0.rows
   same_rows = holds.lines.rows ∙ ap (λ read. (policy_read read).rows) former.1
 
-  module _ (mount : Mount) (here : slice_get content.table fs ≡ Some mount) (file : e.file ≡ exports_name mount.path) where
+  module _ (mount : Mount) (here : slice_get content.table fs ≡ Some mount) (file : name ≡ exports_name mount.path) where
     abbrev gives : Result ExportsFile SiteFault
     gives = read_text text content.table tables fs mount.path
 
@@ -118,11 +118,11 @@ module _ {V : Type 0} (law : OneFileIsReplaced) (order : TablesAreInOrder) (in_f
     in_former = ap (λ ms. slice_get ms fs) (sym same_table) ∙ here
 
     differ : DifferIn former.0.table fs old new
-    differ = differ_in (newest_in state.heads) (revision_of e) former.0.table fs mount (order old.files.filesystems former.0.table (table_read old former.0 former.1)).0 in_former file
+    differ = differ_in (newest_in state.heads) (revision_with name body) former.0.table fs mount (order old.files.filesystems former.0.table (table_read old former.0 former.1)).0 in_former file
 
     own_file : read_exports new former.0.table tables fs mount.path ≡ gives
     own_file =
-        ap (λ t. read_text t former.0.table tables fs mount.path) (own_text (newest_in state.heads) (revision_of e) (exports_name mount.path) file)
+        ap (λ t. read_text t former.0.table tables fs mount.path) (own_text (newest_in state.heads) (revision_with name body) (exports_name mount.path) file)
         ∙ ap (λ ms. read_text text ms tables fs mount.path) (sym same_table)
 
     replaced : ReadsWith former.0 fs gives (read_site new)
@@ -157,7 +157,7 @@ module _ {V : Type 0} (law : OneFileIsReplaced) (order : TablesAreInOrder) (in_f
   -- the lines of the text, or its fault
   pub rows_read : (result : Result (List Row) (ReadError SiteFault)) → ReadsLines result text content.table tables fs → ReadsRows in_force state fs new result
   rows_read (Ok rows) told =
-      let at = place_of content.table e.file fs place in
+      let at = place_of content.table name fs place in
       let has = told at.0 at.1 in
       let up = lines_ascend (gives at.0 at.1 at.2) rows has in
       record {
@@ -166,7 +166,7 @@ module _ {V : Type 0} (law : OneFileIsReplaced) (order : TablesAreInOrder) (in_f
         puts = λ own. puts_at at.0 at.1 at.2 rows has (record { file_system = at.3; ascending = up; consistent = own });
         contradict = λ fault names. contradicts_at at.0 at.1 at.2 rows has fault names;
       }
-  rows_read (Err (Fault fault)) told = let at = place_of content.table e.file fs place in faulty_at at.0 at.1 at.2 fault (told at.0 at.1)
+  rows_read (Err (Fault fault)) told = let at = place_of content.table name fs place in faulty_at at.0 at.1 at.2 fault (told at.0 at.1)
   rows_read (Err Memory) told = tt
 
 -- ---- lines that were read, made ready to stand for those of their file system

@@ -8,7 +8,7 @@ use Rattle.desk_policy.specs.Laws.{custodians_in, filesystems_in}
 use Rattle.desk_policy.specs.Parsing.{content_with, if_listed, in_file, read_after_filesystems, read_files, read_policy, read_site, read_site_tables, then_read, unless_unlisted}
 use Rattle.desk_policy.specs.Policy.{Content}
 use Rattle.desk_policy.specs.Site.{SiteTexts}
-use Rattle.desk_policy.specs.Unlisted.{unlisted_line}
+use Rattle.desk_policy.specs.UnlistedCustodians.{unlisted_line}
 use Rattle.desk_policy.specs.declared.site_fault.SiteFault.{SiteFault}
 
 -- what was read before what comes next

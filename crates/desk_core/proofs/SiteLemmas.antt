@@ -1,9 +1,8 @@
 -- The site of heads, one head after another.
-use Rattle.std.proofs.Common.{◌≡◌, ◌∙◌, inl, inr, sym, ap, subst, refl, ℕ, ◌+◌, ◌<◌, ◌≤◌, ◌++◌, Bool, true, false, cond, List, [], ◌∷◌, Option, Some, Result, Ok, Err, IfOk, All, ◌-◌, length, get_or, drop, arith}
+use Rattle.std.proofs.Common.{◌≡◌, ◌∙◌, inl, inr, sym, ap, subst, refl, ℕ, ◌+◌, ◌<◌, ◌≤◌, ◌++◌, Bool, true, false, cond, List, [], ◌∷◌, Option, Some, Result, Ok, Err, All, ◌-◌, length, get_or, drop, arith}
 use Rattle.std.specs.Prelude.{codes, find, None}
 use Rattle.std.specs.List.{AllByRecursion}
 use Rattle.std.specs.Option.{option_map_or}
-use Rattle.std.specs.Result.{result_unwrap_or}
 use Rattle.std.specs.Str.{bytes_eq}
 use Rattle.std.proofs.Math.Path.{fun_ext}
 use Rattle.std.proofs.lemmas.Bool.{cases_Bool, cond-false, cond-true}
@@ -11,9 +10,6 @@ use Rattle.std.proofs.lemmas.List.{at_drop_more}
 use Rattle.std.proofs.lemmas.List.Elements.{recursion_from_All}
 use Rattle.std.proofs.lemmas.Slice.Eq.{bytes_eq-Decides}
 use Rattle.desk_text.specs.Lines.{longest_text}
-use Rattle.desk_tables.specs.Custodians.{read_custodians}
-use Rattle.desk_tables.specs.Rules.{TableFault}
-use Rattle.desk_tables.specs.declared.custodians.Custodian.{Custodian}
 use Rattle.desk_policy.specs.Contradiction.{HasNoContradiction}
 use Rattle.desk_policy.specs.Parsing.{read_site}
 use Rattle.desk_policy.specs.Policy.{Content}
@@ -28,7 +24,7 @@ use Rattle.desk_policy.specs.declared.site_file.SiteFile.{SiteFile}
 use Rattle.desk_policy.specs.declared.site_file.SiteFile.TheVariants.{Custodians, Filesystems, Group, Hosts, Netgroup, Networks, Passwd}
 use Rattle.desk_core.specs.Head.{CanBeKept, Newest, newest_in, put}
 use Rattle.desk_core.specs.PrivateSite.{text_or, with_text}
-use Rattle.desk_core.specs.Site.{IsConsistent, IsInForce, IsSound, custodians_of, policy_of, policy_read, site_by, site_in, text_in, revision_text}
+use Rattle.desk_core.specs.Site.{IsConsistent, IsInForce, IsSound, policy_of, policy_read, site_by, site_in, text_in, revision_text}
 use Rattle.desk_core.specs.declared.head.Head.{Head}
 
 abbrev made : PerSite (List ℕ) → (List ℕ → ExportsText) → SiteTexts
@@ -124,9 +120,6 @@ in_force texts content e none =
     let is : policy_of texts ≡ content = ap policy_read e in
     record { consistent = subst IsSound (sym e) none; lines = record { table = sym (ap (λ c. c.table) is); rows = sym (ap (λ c. c.rows) is) } }
 
-pub custodians_in_force : (texts : SiteTexts) (custodians : List Custodian) → read_custodians texts.files.custodians ≡ Ok custodians → custodians ≡ custodians_of texts
-custodians_in_force texts custodians e = sym (ap (λ (r : Result (List Custodian) TableFault). result_unwrap_or r []) e)
-
 apart : (read : Result Content SiteFault) (fault : SiteFault) → IsSound read → IsFaultOf read fault → ⊥
 apart (Ok policy) fault none named = none _ _ _ _ named.here.is
 apart (Err first) fault none named = none
@@ -171,10 +164,6 @@ pub drop_back : (xs : List Head) (n : ℕ) (h : Head) → 0 < n → n ≤ length
 drop_back xs n h from to e =
     let next : n ≡ n - 1 + 1 = omega arith in
     ap (λ x. x ∷ drop n xs) e ∙ ap (λ k. get_or xs (n - 1) h ∷ drop k xs) next ∙ sym (at_drop_more (λ ys. ys) xs (n - 1) h (omega arith))
-
-pub if_ok : {T E : Type 0} (P Q : T → Type 0) (r : Result T E) → ((x : T) → P x → Q x) → IfOk r P → IfOk r Q
-if_ok P Q (Ok x) f h = f x h
-if_ok P Q (Err e) f h = h
 
 -- only the text and the profile of the newest revisions count, and not who wrote them
 pub same_site : (newest : Newest) (h other : Head) → h.file ≡ other.file → revision_text h ≡ revision_text other → site_in (put newest h) ≡ site_in (put newest other)

@@ -13,7 +13,7 @@ use Rattle.desk_policy.specs.declared.parsing.SiteTables.{SiteTables}
 use Rattle.desk_policy.specs.declared.row.Row.{Row}
 use Rattle.desk_policy.specs.declared.site_fault.SiteFault.{SiteFault}
 use Rattle.desk_core.specs.Edit.{Answer, Edit, Refused, revision_of}
-use Rattle.desk_core.specs.Foresight.{HasLinesAlone}
+use Rattle.desk_core.specs.Foresight.{HasLinesAlone, with_text}
 use Rattle.desk_core.specs.Judging.{AnswersBySite, answer_of, entry_of}
 use Rattle.desk_core.specs.Head.{CanBeKept, newest_in, put}
 use Rattle.desk_core.specs.Site.{IsInForce, site_in}
@@ -36,6 +36,10 @@ pub record IsState (heads : List Head) (proposals : List Proposal) (content : Co
   pub tables_are : read_site_tables (site_in (newest_in heads)) ≡ Ok tables
   pub kept : All CanBeKept heads
   pub pending : All CanBePending proposals
+
+-- the site of a state, but that a file has this text
+abbrev pub site_with : {V : Type 0} → Kept V → List ℕ → List ℕ → SiteTexts
+site_with state file text = site_in (with_text (newest_in state.heads) file text)
 
 -- the answer of a case, as it is handed out
 abbrev pub AnswersCase : {V : Type 0} → Result (Judged (Ready V)) (ReadError Refusal) → Answer → Type 0

@@ -3,7 +3,8 @@
 ghost use Rattle.std.specs.Prelude.{◌≡◌, All};
 ghost use Rattle.desk_policy.specs.Site.{HaveReadableLengths, texts_of};
 ghost use Rattle.desk_policy.specs.View.{Compiles};
-ghost use Rattle.desk_core.specs.Head.{CanBeKept, newest_in, put};
+ghost use Rattle.desk_core.specs.Foresight.{with_text};
+ghost use Rattle.desk_core.specs.Head.{CanBeKept, newest_in};
 ghost use Rattle.desk_core.specs.PrivateState.{MayStand, PutsInForce, custodians_after, tables_after};
 ghost use Rattle.desk_core.specs.Site.{site_in};
 ghost use Rattle.desk_core.specs.State.{changed};
@@ -96,16 +97,17 @@ pub(crate) fn put_heads_in_force<V: PolicyView + Drop>(
     put_in_force(alloc, &site)
 }
 
-/// Makes the site of these heads, with this head as that of its file, ready to be in force; or gives its fault.
-pub(crate) fn put_head_in_force<V: PolicyView + Drop>(
+/// Makes the site of these heads, if a file has this text, read by profile 2, ready to be in force; or gives its fault.
+pub(crate) fn put_text_in_force<V: PolicyView + Drop>(
     alloc: Global,
     heads: &[Head],
-    head: &Head,
+    file: &str,
+    text: &str,
 ) -> Result<SiteInForce<V>, ReadError<SiteFault>>
-    requires { HaveReadableLengths (site_in (put (newest_in heads.now) head.now)) }
-    ensures { PutsInForce V.in_force (site_in (put (newest_in heads.now) head.now)) result }
+    requires { HaveReadableLengths (site_in (with_text (newest_in heads.now) file.now text.now)) }
+    ensures { PutsInForce V.in_force (site_in (with_text (newest_in heads.now) file.now text.now)) result }
 {
-    let site = site_with(alloc, heads, head)?;
+    let site = site_with(alloc, heads, file, text)?;
     put_in_force(alloc, &site)
 }
 

@@ -290,7 +290,7 @@ fn guarded_entry(
 }
 
 /// Makes the revision that an edit stores by itself.
-pub(crate) fn revision_of(alloc: Global, edit: &Edit<'_>) -> Result<Head, AllocError>
+fn revision_of(alloc: Global, edit: &Edit<'_>) -> Result<Head, AllocError>
     requires { edit.now.base < last_revision }
     ensures { IfOk result (λ head. head ≡ revision_of (asked edit.now)) }
 {

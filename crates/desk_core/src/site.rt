@@ -4,7 +4,8 @@ ghost use Rattle.std.specs.Prelude.{◌≡◌, ◌++◌, ℕ, List, IfOk, OnOk, 
 ghost use Rattle.std.specs.BTreeMap.{get_by_text};
 ghost use Rattle.desk_policy.specs.PerSite.{with_file};
 ghost use Rattle.desk_policy.specs.Site.{no_exports, texts_of};
-ghost use Rattle.desk_core.specs.Head.{newest_in, put};
+ghost use Rattle.desk_core.specs.Foresight as foresight;
+ghost use Rattle.desk_core.specs.Head.{newest_in};
 ghost use Rattle.desk_core.specs.PrivateSite.{text_or, with_text};
 ghost use Rattle.desk_core.specs.Site.{site_in, revision_text};
 
@@ -15,12 +16,17 @@ use desk_text::Text;
 use std::alloc::{AllocError, Global};
 use std::collections::BTreeMap;
 
-/// Makes the site of the heads, if this head is that of its file.
-pub(crate) fn site_with(alloc: Global, heads: &[Head], head: &Head) -> Result<Site, AllocError>
-    ensures { IfOk result (λ site. texts_of site ≡ site_in (put (newest_in heads.now) head.now)) }
+/// Makes the site of the heads, if a file has this text, read by profile 2.
+pub(crate) fn site_with(
+    alloc: Global,
+    heads: &[Head],
+    file: &str,
+    text: &str,
+) -> Result<Site, AllocError>
+    ensures { IfOk result (λ site. texts_of site ≡ site_in (foresight.with_text (newest_in heads.now) file.now text.now)) }
 {
     let mut site = site_of(alloc, heads)?;
-    take_head(alloc, &mut site, head)?;
+    take_text(alloc, &mut site, file, Profile::Two, text)?;
     Ok(site)
 }
 
@@ -37,15 +43,28 @@ pub(crate) fn site_of(alloc: Global, heads: &[Head]) -> Result<Site, AllocError>
     Ok(site)
 }
 
-/// Puts the text of this head in the place of that of its file. A head of a file of another name changes nothing.
+/// Puts the text of this head in the place of that of its file.
 fn take_head(alloc: Global, site: &mut Site, head: &Head) -> Result<(), AllocError>
     ensures { OnOk result (texts_of site.new ≡ with_text (texts_of site.old) head.now.file (revision_text head.now)) }
 {
     let file = head.file.as_str();
     let body = head.body.as_str();
+    take_text(alloc, site, file, head.profile, body)
+}
+
+/// Puts a text in the place of that of its file. The text of a file of another name changes nothing.
+fn take_text(
+    alloc: Global,
+    site: &mut Site,
+    file: &str,
+    profile: Profile,
+    text: &str,
+) -> Result<(), AllocError>
+    ensures { OnOk result (texts_of site.new ≡ with_text (texts_of site.old) file.now (record { profile = profile; body = text.now })) }
+{
     match SiteFile::of(file) {
-        Some(own) => put_text(alloc, &mut site.files, own, body),
-        None => put_exports(alloc, &mut site.exports, file, head.profile, body),
+        Some(own) => put_text(alloc, &mut site.files, own, text),
+        None => put_exports(alloc, &mut site.exports, file, profile, text),
     }
 }
 

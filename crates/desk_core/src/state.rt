@@ -3,14 +3,12 @@
 ghost use Rattle.std.specs.Prelude.{◌≡◌, ◌<◌, ◌≤◌, [], All, IfOk, None, Ok, Some, length, vec_capacity, vec_len};
 ghost use Rattle.std.specs.Option.{option_copied};
 ghost use Rattle.desk_policy.specs.Parsing.{read_site_tables};
-ghost use Rattle.desk_policy.specs.Site.{HaveReadableLengths};
 ghost use Rattle.desk_policy.specs.SiteFile.{exports_place};
-ghost use Rattle.desk_core.specs.Edit as spec;
 ghost use Rattle.desk_core.specs.Edit.{asked};
 ghost use Rattle.desk_core.specs.Foresight.{Foresees, ForeseesSite};
 ghost use Rattle.desk_core.specs.Head.{CanBeKept, StandOnce, last_revision, longest_revision, newest_in, put};
 ghost use Rattle.desk_core.specs.Judging.{answer_in, entry_of, first_case};
-ghost use Rattle.desk_core.specs.PrivateState.{Accepts, AnswersCase, MakesChange, PutsInForce, ReadsRows, ShowsLines, refusal_of};
+ghost use Rattle.desk_core.specs.PrivateState.{Accepts, AnswersCase, MakesChange, ReadsRows, ShowsLines, refusal_of, site_with};
 ghost use Rattle.desk_core.specs.Site.{IsInForce, site_in};
 ghost use Rattle.desk_core.specs.Standing.{CanBePending, PendOnce, proposals_in, with_entry, without};
 ghost use Rattle.desk_core.specs.State.{IsJudged, Judges, PutsSite, Starts, standing};
@@ -18,13 +16,13 @@ ghost use Rattle.desk_core.specs.Views.{shown};
 ghost use Rattle.desk_core.specs.declared.entry.Entry.TheVariants.{Revised};
 
 use crate::change::{
-    Change, SiteInForce, foreseen_in, put_change, put_head_in_force, put_heads_in_force, view_of,
+    Change, SiteInForce, foreseen_in, put_change, put_heads_in_force, put_text_in_force, view_of,
 };
 use crate::edit::{Edit, Refusal};
 use crate::entry::Entry;
 use crate::foresight::{ForeseenSite, Foresight};
 use crate::head::{Head, newest_among, newest_number, put_head};
-use crate::judging::{Case, entry_by, first_case, revision_of};
+use crate::judging::{Case, entry_by, first_case};
 use crate::proposal::{Proposal, proposal_among, put_proposal, withdraw};
 use desk_exports::Profile;
 use desk_policy::{
@@ -156,11 +154,10 @@ impl<V: PolicyView + Drop> State<V> {
         requires { length text.now ≤ longest_revision }
         ensures { Foresees V.in_force self.now file.now text.now result }
     {
-        let edit = edit_by_nobody(file, text);
         match exports_place(self.site.view.policy().filesystems(), file) {
-            Some(fs) => Ok(Foresight::Lines(fs, self.view_of_lines(alloc, &edit, fs)?)),
+            Some(fs) => Ok(Foresight::Lines(fs, self.view_of_lines(alloc, file, text, fs)?)),
             None => {
-                let site = put_edit_in_force(alloc, self.heads.as_slice(), &edit)?;
+                let site = put_text_in_force(alloc, self.heads.as_slice(), file, text)?;
                 Ok(Foresight::Whole(view_of(site)))
             }
         }
@@ -177,8 +174,7 @@ impl<V: PolicyView + Drop> State<V> {
         requires { length text.now ≤ longest_revision }
         ensures { ForeseesSite V.in_force self.now file.now text.now result }
     {
-        let edit = edit_by_nobody(file, text);
-        let made = put_edit_in_force(alloc, self.heads.as_slice(), &edit)?;
+        let made = put_text_in_force(alloc, self.heads.as_slice(), file, text)?;
         Ok(foreseen_in(made))
     }
 
@@ -310,7 +306,7 @@ impl<V: PolicyView + Drop> State<V> {
         let room = Vec::with_capacity(alloc, self.heads.len() + 1)?;
         let proposal_room = Vec::with_capacity(alloc, self.proposals.len() + 1)?;
         let entry = self.entry_of(alloc, edit)?;
-        match self.change_by(alloc, edit) {
+        match self.change_by(alloc, edit.file, edit.text) {
             Ok(change) => Ok(Accepted {
                 entry,
                 room,
@@ -326,66 +322,70 @@ impl<V: PolicyView + Drop> State<V> {
         }
     }
 
-    /// Makes the change that an edit brings of which no case holds, or gives the fault of the site with its text.
+    /// Makes the change that a file's text brings, read by profile 2, or gives the fault of the site with it.
     fn change_by(
         &self,
         alloc: Global,
-        edit: &Edit<'_>,
+        file: &str,
+        text: &str,
     ) -> Result<Change<V, V::Part>, ReadError<SiteFault>>
-        requires { first_case (standing self.now) (asked edit.now) ≡ None }
-        ensures { MakesChange V.in_force V.part_rows self.now edit.now.file.now (site_in (put (newest_in self.now.heads) (spec.revision_of (asked edit.now)))) result }
+        requires { length text.now ≤ longest_revision }
+        ensures { MakesChange V.in_force V.part_rows self.now file.now (site_with self.now file.now text.now) result }
     {
-        match exports_place(self.site.view.policy().filesystems(), edit.file) {
-            Some(fs) => self.lines_by(alloc, edit, fs),
-            None => Ok(Change::Whole(put_edit_in_force(alloc, self.heads.as_slice(), edit)?)),
+        match exports_place(self.site.view.policy().filesystems(), file) {
+            Some(fs) => self.lines_by(alloc, file, text, fs),
+            None => Ok(Change::Whole(put_text_in_force(alloc, self.heads.as_slice(), file, text)?)),
         }
     }
 
-    /// Makes the lines of an edit of an exports file ready to stand for those of its file system, or gives the fault of the
+    /// Makes the lines of an exports file with this text ready to stand for those of its file system, or gives the fault of the
     /// site with them.
     fn lines_by(
         &self,
         alloc: Global,
-        edit: &Edit<'_>,
+        file: &str,
+        text: &str,
         fs: FsId,
     ) -> Result<Change<V, V::Part>, ReadError<SiteFault>>
-        requires place { exports_place (V.in_force self.now.view).table edit.now.file.now ≡ Some fs.0 }
-        requires short { length edit.now.text.now ≤ longest_revision }
-        ensures { MakesChange V.in_force V.part_rows self.now edit.now.file.now (site_in (put (newest_in self.now.heads) (spec.revision_of (asked edit.now)))) result }
+        requires place { exports_place (V.in_force self.now.view).table file.now ≡ Some fs.0 }
+        requires short { length text.now ≤ longest_revision }
+        ensures { MakesChange V.in_force V.part_rows self.now file.now (site_with self.now file.now text.now) result }
     {
-        let rows = self.rows_by(alloc, edit, fs)?;
+        let rows = self.rows_by(alloc, file, text, fs)?;
         let part = self.site.view.part(alloc, fs, rows)?;
         Ok(Change::Lines(fs, part))
     }
 
-    /// Makes a view of the lines of an edit of an exports file, beside no others, or gives the fault of the site with them.
+    /// Makes a view of the lines of an exports file with this text, beside no others, or gives the fault of the site with them.
     fn view_of_lines(
         &self,
         alloc: Global,
-        edit: &Edit<'_>,
+        file: &str,
+        text: &str,
         fs: FsId,
     ) -> Result<V, ReadError<SiteFault>>
-        requires place { exports_place (V.in_force self.now.view).table edit.now.file.now ≡ Some fs.0 }
-        requires short { length edit.now.text.now ≤ longest_revision }
-        ensures { ShowsLines V.in_force self.now fs.0 (site_in (put (newest_in self.now.heads) (spec.revision_of (asked edit.now)))) result }
+        requires place { exports_place (V.in_force self.now.view).table file.now ≡ Some fs.0 }
+        requires short { length text.now ≤ longest_revision }
+        ensures { ShowsLines V.in_force self.now fs.0 (site_with self.now file.now text.now) result }
     {
-        let rows = self.rows_by(alloc, edit, fs)?;
-        let filesystems = self.site.view.policy().filesystems().copy()?;
+        let rows = self.rows_by(alloc, file, text, fs)?;
+        let filesystems = self.site.view.policy().filesystems().share()?;
         let policy = Policy::of_lines(alloc, filesystems, fs, rows)?;
         V::build(alloc, policy)
     }
 
-    /// Reads the text of an edit as the exports file of a file system, or gives the fault of the site with it. No other file is
-    /// read.
+    /// Reads a text as that of an exports file, the one of this file system, or gives the fault of the site with it. No other file
+    /// is read.
     fn rows_by(
         &self,
         alloc: Global,
-        edit: &Edit<'_>,
+        file: &str,
+        text: &str,
         fs: FsId,
     ) -> Result<Sequence<Row>, ReadError<SiteFault>>
-        requires place { exports_place (V.in_force self.now.view).table edit.now.file.now ≡ Some fs.0 }
-        requires short { length edit.now.text.now ≤ longest_revision }
-        ensures { ReadsRows V.in_force self.now fs.0 (site_in (put (newest_in self.now.heads) (spec.revision_of (asked edit.now)))) result }
+        requires place { exports_place (V.in_force self.now.view).table file.now ≡ Some fs.0 }
+        requires short { length text.now ≤ longest_revision }
+        ensures { ReadsRows V.in_force self.now fs.0 (site_with self.now file.now text.now) result }
     {
         // The rest of the site is as it was, and no other mount point is printed alike.
         one_file_is_replaced();
@@ -394,7 +394,7 @@ impl<V: PolicyView + Drop> State<V> {
         read_lines(
             alloc,
             Profile::Two,
-            edit.text,
+            text,
             filesystems,
             &self.site.tables,
             fs,
@@ -435,31 +435,4 @@ fn refused(error: ReadError<SiteFault>) -> ReadError<Refusal>
         ReadError::Fault(fault) => ReadError::Fault(Refusal::Fault(fault)),
         ReadError::Memory => ReadError::Memory,
     }
-}
-
-/// Makes the edit of a file with this text that nobody asks for.
-fn edit_by_nobody<'a>(file: &'a str, text: &'a str) -> Edit<'a>
-    ensures { asked result ≡ record { file = file.now; base = 0; caller = []; key = []; text = text.now } }
-{
-    Edit {
-        file,
-        base: 0,
-        caller: "",
-        key: "",
-        text,
-    }
-}
-
-/// Makes the site of these heads, with the text of an edit as that of its file, ready to be in force; or gives its fault.
-fn put_edit_in_force<V: PolicyView + Drop>(
-    alloc: Global,
-    heads: &[Head],
-    edit: &Edit<'_>,
-) -> Result<SiteInForce<V>, ReadError<SiteFault>>
-    requires base { edit.now.base < last_revision }
-    requires lengths { HaveReadableLengths (site_in (put (newest_in heads.now) (spec.revision_of (asked edit.now)))) }
-    ensures { PutsInForce V.in_force (site_in (put (newest_in heads.now) (spec.revision_of (asked edit.now)))) result }
-{
-    let head = revision_of(alloc, edit)?;
-    put_head_in_force(alloc, heads, &head)
 }

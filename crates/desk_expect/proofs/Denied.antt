@@ -9,7 +9,7 @@ use Rattle.desk_text.specs.Path.{is_under}
 use Rattle.desk_tables.specs.FileSystems.{fs_of, is_file_system}
 use Rattle.desk_tables.specs.declared.filesystems.Mount.{Mount}
 use Rattle.desk_policy.specs.Verdict.{verdict_in, verdict_of}
-use Rattle.desk_expect.specs.Outside.{OutsideIsDenied, is_outside}
+use Rattle.desk_expect.specs.OutsideDirectories.{OutsideIsDenied, is_outside}
 
 -- of two directories that a path is under, one is under the other
 comparable : (path a b : List (List ℕ)) → is_under path a ≡ true → is_under path b ≡ true → (is_under a b ≡ true) ⊎ (is_under b a ≡ true)

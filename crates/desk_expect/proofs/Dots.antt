@@ -10,9 +10,6 @@ use Rattle.std.proofs.lemmas.Bool.{cases_Bool, cond-false, cond-true, le-ltb}
 use Rattle.std.proofs.lemmas.List.{drop_at, length-append, length-take-le, take-append-drop}
 use Rattle.desk_expect.specs.Scope.{before_dots, ends_in_dots}
 
-dots : List ℕ
-dots = codes "/..."
-
 -- it ends so
 pub with_dots : (text front : List ℕ) (k : ℕ) → k ≡ length (codes "/...") → text ≡ take (length text - k) text ++ codes "/..." → front ≡ take (length text - k) text → Some front ≡ before_dots text
 with_dots text front k four split is =

@@ -1,5 +1,5 @@
 -- The expectations of the lines of a text, line by line.
-use Rattle.std.proofs.Common.{◌≡◌, ℕ, ◌+◌, ◌<◌, ◌≤◌, ◌++◌, List, [], ◌∷◌, Option, Result, Ok, Err, ap, get_or, length, map, sym, subst, take, ◌∙◌}
+use Rattle.std.proofs.Common.{◌≡◌, ℕ, ◌+◌, ◌<◌, ◌++◌, List, [], ◌∷◌, Option, Result, Ok, Err, ap, get_or, length, map, sym, subst, take, ◌∙◌}
 use Rattle.desk_text.specs.Lines.{LogicalLine}
 use Rattle.desk_text.specs.Reading.{read_lines, split_answer}
 use Rattle.desk_text.specs.declared.reading.ReadError.{ReadError}
@@ -11,7 +11,7 @@ use Rattle.desk_expect.specs.PrivateReading.{AnswersLine, ReadsLine}
 use Rattle.desk_expect.specs.Reading.{AreExpectationsOf, answered, line_answer}
 use Rattle.desk_expect.specs.declared.expectation.Expectation.{Expectation}
 use Rattle.desk_expect.specs.declared.rules.Rule.{Rule}
-use Rattle.desk_expect.proofs.Lines.{AllGood, all_good, first_faulty, good_more, none_yet, zip_push}
+use Rattle.desk_expect.proofs.Lines.{AllGood, first_faulty, good_more, zip_push}
 
 module _ (netgroups : List GroupLine) (hosts : List HostRow) where
   -- no line is faulty, and the expectations are what the lines promise
@@ -19,13 +19,6 @@ module _ (netgroups : List GroupLine) (hosts : List HostRow) where
     pub promises : List Promise
     pub good : AllGood (answered netgroups hosts) lines promises
     pub are : AreExpectationsOf netgroups hosts promises found
-
-  pub nothing_yet : (found : List Expectation) → found ≡ [] → AreGathered [] found
-  nothing_yet found none = record {
-    promises = [];
-    good = none_yet (answered netgroups hosts);
-    are = subst (AreExpectationsOf netgroups hosts []) (sym none) tt;
-  }
 
   pub one_more : (lines : List LogicalLine) (i : ℕ) (line : LogicalLine) → i < length lines → line ≡ get_or lines i line → (expectation : Expectation)
       → AnswersLine netgroups hosts (line_answer netgroups hosts line) expectation → (old new : List Expectation) → new ≡ old ++ expectation ∷ []
@@ -36,9 +29,6 @@ module _ (netgroups : List GroupLine) (hosts : List HostRow) where
     are = subst (AreExpectationsOf netgroups hosts (so_far.promises ++ answers.promise ∷ [])) (sym added)
         (zip_push (IsExpectationOf netgroups hosts) so_far.promises old answers.promise expectation so_far.are answers.of);
   }
-
-  pub all_read : (lines : List LogicalLine) (i : ℕ) (found : List Expectation) → length lines ≤ i → (so_far : AreGathered (take i lines) found) → read_lines (map (answered netgroups hosts) lines) ≡ Ok so_far.promises
-  all_read lines i found over so_far = all_good (answered netgroups hosts) lines i so_far.promises over so_far.good
 
   pub faulty_line : (lines : List LogicalLine) (i : ℕ) (line : LogicalLine) → i < length lines → line ≡ get_or lines i line → (rule : Rule) → line_answer netgroups hosts line ≡ Err rule
       → (found : List Expectation) → AreGathered (take i lines) found → read_lines (map (answered netgroups hosts) lines) ≡ Err (record { line = line.number; rule = rule })

@@ -1,9 +1,11 @@
 pub mod Denied
 pub mod Dots
 pub mod FaultWords
+pub mod FaultyLines
 pub mod Gathered
 pub mod Held
 pub mod Holding
+pub mod HostBits
 pub mod Joined
 pub mod Verdicts
 pub mod Lines

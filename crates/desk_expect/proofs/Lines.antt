@@ -1,5 +1,5 @@
 -- What the lines of a text answer together, line by line.
-use Rattle.std.proofs.Common.{◌≡◌, ℕ, ◌+◌, ◌<◌, ◌≤◌, ◌++◌, List, [], ◌∷◌, Option, Result, Ok, Err, Some, ap, get_or, length, map, refl, sym, subst, take, drop, ◌∙◌}
+use Rattle.std.proofs.Common.{◌≡◌, ℕ, ◌+◌, ◌<◌, ◌≤◌, ◌++◌, List, [], ◌∷◌, Option, Result, Ok, Err, Some, ap, get_or, length, map, sym, subst, take, drop, ◌∙◌}
 use Rattle.std.specs.List.{AllZip, cons_option, filter_map}
 use Rattle.std.proofs.lemmas.List.{append-nil, drop_more, map-append, take_all, take_more, take-append-drop}
 use Rattle.std.proofs.lemmas.List.Elements.{filter_map-append}
@@ -15,19 +15,10 @@ zip_push R (a ∷ xs) [] x y all one = absurd all
 zip_push R (a ∷ xs) (b ∷ ys) x y all one = (all.0, zip_push R xs ys x y all.1 one)
 
 module _ {X R : Type 0} (answered : LogicalLine → AnsweredLine X R) where
-  faults_of : List LogicalLine → List (LineFault R)
-  faults_of lines = filter_map fault_of (map answered lines)
-
-  values_of : List LogicalLine → List X
-  values_of lines = filter_map value_of (map answered lines)
-
   -- no line of the list is faulty, and these are the values
   pub record AllGood (lines : List LogicalLine) (values : List X) : Type 0 where
     pub sound : filter_map fault_of (map answered lines) ≡ []
     pub are : filter_map value_of (map answered lines) ≡ values
-
-  pub none_yet : AllGood [] []
-  none_yet = record { sound = refl; are = refl }
 
   -- one good line more
   pub good_more : (lines : List LogicalLine) (i : ℕ) (line : LogicalLine) → i < length lines → line ≡ get_or lines i line → (value : X) → (answered line).answer ≡ Ok (Some value)

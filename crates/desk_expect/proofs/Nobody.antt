@@ -18,10 +18,6 @@ each_in passes first (suc count) none n low high =
       | inr apart ↦ each_in passes (first + 1) count p.1 n (omega arith) (omega arith)
     ]
 
-not_true : (b : Bool) → not b ≡ true → b ≡ false
-not_true true e = sym e
-not_true false e = refl
-
 -- if none passes, this says so
 pub none_passes_below : (count : ℕ) (passes : ℕ → Bool) → ((n : ℕ) → n < count → passes n ≡ false) → none_below count passes ≡ true
 unfolding none_below

@@ -5,7 +5,7 @@ use Rattle.std.specs.Option.{option_map}
 use Rattle.std.specs.Str.{bytes_eq}
 use Rattle.desk_exports.specs.Flavours.{flavour_of, same_flavour}
 use Rattle.desk_exports.specs.declared.entry.Terms.{Terms}
-use Rattle.desk_policy.specs.Acting.{act_as}
+use Rattle.desk_policy.specs.ActingAs.{act_as}
 use Rattle.desk_policy.specs.Verdict.{Grant}
 use Rattle.desk_policy.specs.declared.verdict.Denial.{Denial}
 use Rattle.desk_expect.specs.declared.action.Action.{Action}

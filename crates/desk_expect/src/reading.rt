@@ -57,7 +57,7 @@ pub fn read_expectations(
 }
 
 /// Reads what a line expects, or the first rule that it breaks.
-fn read_line(
+pub(crate) fn read_line(
     alloc: Global,
     netgroups: &Netgroups,
     hosts: &Hosts,

@@ -44,6 +44,19 @@ fn push_broken(
     ensures { OnOk result (string_bytes text.new ≡ string_bytes text.old ++ spec.broken_text policy.now file.now (broken_value broken.now)) }
 {
     push_headline(file, broken, text)?;
+    push_sections(alloc, policy, broken, text)
+}
+
+/// Writes where and for whom an expectation is broken: the sections below its headline.
+pub fn push_sections(
+    alloc: Global,
+    policy: &Policy,
+    broken: &Broken<'_>,
+    text: &mut String,
+) -> Result<(), AllocError>
+    ensures { OnOk result (string_bytes text.new
+        ≡ string_bytes text.old ++ flat_map (spec.section_text policy.now) (broken_value broken.now).sections) }
+{
     for section in broken.sections.as_slice() {
         push_section(alloc, policy, section, text)?;
     }

@@ -14,23 +14,18 @@ use Rattle.desk_tables.specs.Users.{read_users}
 use Rattle.desk_tables.specs.declared.custodians.Custodian.{Custodian}
 use Rattle.desk_tables.specs.declared.filesystems.FsId.{FsId}
 use Rattle.desk_tables.specs.declared.filesystems.Mount.{Mount}
-use Rattle.desk_tables.specs.declared.groups.Group.{Group}
-use Rattle.desk_tables.specs.declared.hosts.HostRow.{HostRow}
-use Rattle.desk_tables.specs.declared.networks.NetworkName.{NetworkName}
-use Rattle.desk_tables.specs.declared.users.User.{User}
 use Rattle.desk_netgroup.specs.Laws as netgroup
 use Rattle.desk_netgroup.specs.Netgroups.{read_netgroups}
-use Rattle.desk_netgroup.specs.declared.faults.GroupFault.{GroupFault}
-use Rattle.desk_netgroup.specs.declared.group_line.GroupLine.{GroupLine}
 use Rattle.desk_exports.specs.Files.{whole_answer}
 use Rattle.desk_exports.specs.Laws.{FirstFaultIsTheHead}
 use Rattle.desk_exports.specs.declared.entry.Entry.{Entry}
 use Rattle.desk_exports.specs.declared.profile.Profile.TheVariants.{Two}
 use Rattle.desk_exports.specs.declared.rules.Rule.{Rule}
 use Rattle.desk_policy.specs.Parsing.{if_listed, in_file, rows_with, then_read, unless_unlisted, whole_policy}
+use Rattle.desk_policy.specs.PerTable.{map_tables}
 use Rattle.desk_policy.specs.Policy.{Content, content_of, with_warnings}
-use Rattle.desk_policy.specs.SiteFault.{group_fault, line_fault, table_fault}
-use Rattle.desk_policy.specs.Unlisted.{has_unlisted, least, unlisted_line}
+use Rattle.desk_policy.specs.SiteFault.{line_fault}
+use Rattle.desk_policy.specs.UnlistedCustodians.{has_unlisted, least, unlisted_line}
 use Rattle.desk_policy.specs.Warning.{whole_warnings}
 use Rattle.desk_policy.specs.declared.parsing.SiteTables.{SiteTables}
 use Rattle.desk_policy.specs.declared.per_table.PerTable.{PerTable}
@@ -47,6 +42,7 @@ use Rattle.desk_findings.specs.declared.check_site.SiteSources.{SiteSources}
 use Rattle.desk_findings.specs.declared.check_text.Gathered.{Gathered}
 use Rattle.desk_findings.specs.declared.check_text.WholeSources.{WholeSources}
 use Rattle.desk_findings.proofs.Silent.{IsOddFaultless, IsToldFaultless, faultless_told, first_part, in_order, second_part}
+use Rattle.desk_findings.proofs.TablesRead.{all_read}
 
 -- ---- no fault is told
 
@@ -74,27 +70,6 @@ no_unlisted custodians [] each = refl
 no_unlisted custodians (mount ∷ mounts) each =
     absurd (let bad : true ≡ false = All-head IsOddFaultless (odd_of_unlisted custodians mount) (map (odd_of_unlisted custodians) mounts) each in cc)
 
--- the tables of these answers
-abbrev tables_from : Result (List HostRow) TableFault → Result (List NetworkName) TableFault → Result (List User) TableFault → Result (List Group) TableFault → Result (List GroupLine) GroupFault → Result SiteTables SiteFault
-tables_from h n u g ng =
-    then_read (in_file (table_fault (codes "hosts")) h) (λ hosts.
-    then_read (in_file (table_fault (codes "networks")) n) (λ networks.
-    then_read (in_file (table_fault (codes "passwd")) u) (λ users.
-    then_read (in_file (table_fault (codes "group")) g) (λ groups.
-    then_read (in_file group_fault ng) (λ netgroups.
-    Ok (record { hosts = hosts; networks = networks; users = users; groups = groups; netgroups = netgroups }))))))
-
-all_good : (h : Result (List HostRow) TableFault) (n : Result (List NetworkName) TableFault) (u : Result (List User) TableFault) (g : Result (List Group) TableFault) (ng : Result (List GroupLine) GroupFault)
-    (hosts : List HostRow) (networks : List NetworkName) (users : List User) (groups : List Group) (netgroups : List GroupLine)
-    → h ≡ Ok hosts → n ≡ Ok networks → u ≡ Ok users → g ≡ Ok groups → ng ≡ Ok netgroups
-    → tables_from h n u g ng ≡ Ok (record { hosts = hosts; networks = networks; users = users; groups = groups; netgroups = netgroups })
-all_good h n u g ng hosts networks users groups netgroups eh en eu eg eng =
-    ap (λ r. tables_from r n u g ng) eh
-    ∙ ap (λ r. tables_from (Ok hosts) r u g ng) en
-    ∙ ap (λ r. tables_from (Ok hosts) (Ok networks) r g ng) eu
-    ∙ ap (λ r. tables_from (Ok hosts) (Ok networks) (Ok users) r ng) eg
-    ∙ ap (λ r. tables_from (Ok hosts) (Ok networks) (Ok users) (Ok groups) r) eng
-
 module _ (of_tables : tables.FirstOfFaultsIsReported) (of_netgroup : netgroup.FirstOfFaultsIsReported) (of_exports : FirstFaultIsTheHead) where
   good_tables : (sources : PerTable Source) (all : List Told) → TellTables sources all → All IsToldFaultless all → (site_tables : SiteTables) × (tables_of sources ≡ Ok site_tables)
   good_tables sources all tells each =
@@ -113,8 +88,7 @@ module _ (of_tables : tables.FirstOfFaultsIsReported) (of_netgroup : netgroup.Fi
       let groups = answers (read_groups sources.group.text.now) (λ fault is. no_first _ fault no_groups ((of_tables.of_groups sources.group.text.now fault).0 is)) in
       let netgroups = answers (read_netgroups sources.netgroup.text.now) (λ fault is. no_first _ fault no_netgroups ((of_netgroup sources.netgroup.text.now fault).0 is)) in (
         record { hosts = hosts.0; networks = networks.0; users = users.0; groups = groups.0; netgroups = netgroups.0 },
-        all_good (read_hosts sources.hosts.text.now) (read_networks sources.networks.text.now) (read_users sources.passwd.text.now) (read_groups sources.group.text.now) (read_netgroups sources.netgroup.text.now)
-            hosts.0 networks.0 users.0 groups.0 netgroups.0 hosts.1 networks.1 users.1 groups.1 netgroups.1,
+        all_read (map_tables (λ (source : Source). source.text.now) sources) hosts.0 networks.0 users.0 groups.0 netgroups.0 hosts.1 networks.1 users.1 groups.1 netgroups.1,
       )
 
   write_by : (opinions : Bool) (sources : WholeSources) (table : List Mount) (gathered : Gathered) (site_tables : SiteTables) (answer : Result (List (FsId × Entry)) (LineFault Rule)) → tables_of sources.tables ≡ Ok site_tables

@@ -8,3 +8,4 @@ pub mod PlacedWords
 pub mod Silent
 pub mod SilentSite
 pub mod SilentTexts
+pub mod TablesRead

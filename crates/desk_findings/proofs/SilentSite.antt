@@ -6,7 +6,7 @@ use Rattle.desk_tables.specs.declared.custodians.Custodian.{Custodian}
 use Rattle.desk_tables.specs.declared.filesystems.Mount.{Mount}
 use Rattle.desk_policy.specs.Parsing.{if_listed, unless_unlisted}
 use Rattle.desk_policy.specs.Policy.{Content}
-use Rattle.desk_policy.specs.Unlisted.{unlisted_line}
+use Rattle.desk_policy.specs.UnlistedCustodians.{unlisted_line}
 use Rattle.desk_findings.specs.CheckSite.{GathersBy, GathersFrom, GathersIfListed, GathersSite}
 use Rattle.desk_findings.specs.CheckText.{Gathers}
 use Rattle.desk_findings.specs.Silence.{OfFaultless, OfFaultlessSite, SilentFindingsAreTheServers, SilentSitesAreTheServers, WriteSite}

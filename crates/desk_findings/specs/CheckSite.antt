@@ -8,7 +8,7 @@ use Rattle.desk_tables.specs.Rules.{TableFault}
 use Rattle.desk_tables.specs.declared.custodians.Custodian.{Custodian}
 use Rattle.desk_tables.specs.declared.filesystems.Mount.{Mount}
 use Rattle.desk_tables.specs.declared.rules.TableRule.TheVariants as table_rule
-use Rattle.desk_policy.specs.Unlisted.{has_unlisted, unlisted_line}
+use Rattle.desk_policy.specs.UnlistedCustodians.{has_unlisted, unlisted_line}
 use Rattle.desk_policy.specs.declared.site_fault.SiteRule.TheVariants as site_rule
 use Rattle.desk_findings.specs.CheckFaults.{TellTables, Tells, tell_table}
 use Rattle.desk_findings.specs.CheckOdd.{OddLine, TellInOrder, odd_word}

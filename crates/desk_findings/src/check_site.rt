@@ -2,7 +2,7 @@
 
 ghost use Rattle.std.specs.Prelude.{◌≡◌, ◌<◌, ◌^◌, IfOk, IfSome, OnOk, filter, is_some, map};
 ghost use Rattle.desk_text.specs.Lines.{IsReadable};
-ghost use Rattle.desk_policy.specs.Unlisted.{has_unlisted};
+ghost use Rattle.desk_policy.specs.UnlistedCustodians.{has_unlisted};
 ghost use Rattle.desk_findings.specs.CheckFaults.{Adds, AreReadable};
 ghost use Rattle.desk_findings.specs.CheckOdd.{odd_at};
 ghost use Rattle.desk_findings.specs.CheckSite.{GathersHeads, GathersListed, GathersSite, GathersUnlisted, GathersWithCustodians, TellCustodians, TellFileSystems, TellUnlisted, first_custodian, listed_before, odd_of_unlisted};

@@ -13,7 +13,7 @@ use Rattle.desk_http.specs.declared.connection.State.{State}
 use Rattle.desk_http.specs.declared.connection.State.TheVariants.{Due, Ended}
 use Rattle.desk_http.specs.declared.stepping.Step.{Step}
 use Rattle.desk_http.specs.declared.stepping.Step.TheVariants.{Fault, Reply, Waits}
-use Rattle.desk_http.specs.Connection.{Came, IsKnown, IsLast, IsReadEnd, Moves, Place, ReadMoves, StepMoves, after_reply, has_ended, is_waiting, state_after}
+use Rattle.desk_http.specs.Connection.{Came, IsKnown, IsLast, Moves, Place, ReadMoves, StepMoves, after_reply, has_ended, is_waiting, state_after}
 use Rattle.desk_http_messages.specs.Stream.{Message}
 use Rattle.desk_http.specs.Answering.{Serves}
 use Rattle.desk_http.specs.Stepping.{Steps, text_bytes}
@@ -47,12 +47,6 @@ waits_last bytes pending.Message waits = waits.ends
 waits_last bytes pending.Head waits = waits.ends
 waits_last bytes pending.NoHead waits = waits.ends
 waits_last bytes (pending.Body whole) waits = waits.ends
-
-pub waits_end : (p : Pending) → IsReadEnd (end_of p)
-waits_end pending.Message = tt
-waits_end pending.Head = tt
-waits_end pending.NoHead = tt
-waits_end (pending.Body whole) = tt
 
 pub fails_last : (bytes : List ℕ) (p : Pending) → IsWaiting bytes p → IsLast bytes ReadFault
 fails_last bytes p waits = (waits.is_open, waits.unfaulted, waits.unfinished)

@@ -54,6 +54,7 @@ edit_status (refusal.Fault found) = 422
 abbrev pub refused_status : Refused → ℕ
 refused_status (refused.Edit why) = edit_status why
 refused_status refused.NoRevision = 404
+refused_status refused.OtherProposal = 409
 refused_status refused.Store = 503
 refused_status refused.Schema = 503
 refused_status refused.Memory = 503

@@ -64,40 +64,41 @@ fn answer_text<V: PolicyView + Drop>(
 ) -> Result<String, AllocError>
     ensures { IfOk result (λ text. string_bytes text ≡ print_reply ends (reply_of (question_of question.entry) own.now (answer_of V.in_force answer.now))) }
 {
-    let body = match (question, answer) {
-        (Question::Mount(_, _), Answer::Verdict(policy, verdict)) => {
-            verdict_body(alloc, policy, verdict, own)?
-        }
-        (Question::Listing(address), Answer::Listing(policy, systems)) => {
-            exports_body(alloc, policy, address, systems.as_slice())?
-        }
-        (Question::Who(path), Answer::Who(policy, ranges)) => {
-            who_body(alloc, policy, path, ranges.as_slice())?
-        }
-        (Question::Text(name, _), Answer::Text(text)) => file_body(alloc, name, text)?,
-        (Question::OfFile(name, _), Answer::Revisions(revisions)) => {
-            revisions_body(alloc, name, revisions.as_slice())?
-        }
-        (Question::OfFile(name, _), Answer::Proposal(proposal)) => {
-            proposal_body(alloc, name, proposal)?
-        }
-        // No question that a route asks has another answer. Each kind is named, so that the check finds one without an arm.
-        (
-            _,
-            Answer::NoRevision
-            | Answer::Verdict(_, _)
-            | Answer::Why(_, _)
-            | Answer::Listing(_, _)
-            | Answer::Exports(_)
-            | Answer::Who(_, _)
-            | Answer::Text(_)
-            | Answer::Revisions(_)
-            | Answer::Proposal(_)
-            | Answer::Files(_)
-            | Answer::Foreseen(_)
-            | Answer::Site(_)
-            | Answer::Refused(_),
-        ) => return refused_text(alloc, &Refused::NoRevision, ends),
+    let body = match answer {
+        Answer::Verdict(policy, verdict) => match question {
+            Question::Mount(_, _) => verdict_body(alloc, policy, verdict, own)?,
+            _ => return refused_text(alloc, &Refused::NoRevision, ends),
+        },
+        Answer::Listing(policy, systems) => match question {
+            Question::Listing(address) => {
+                exports_body(alloc, policy, address, systems.as_slice())?
+            }
+            _ => return refused_text(alloc, &Refused::NoRevision, ends),
+        },
+        Answer::Who(policy, ranges) => match question {
+            Question::Who(path) => who_body(alloc, policy, path, ranges.as_slice())?,
+            _ => return refused_text(alloc, &Refused::NoRevision, ends),
+        },
+        Answer::Text(text) => match question {
+            Question::Text(name, _) => file_body(alloc, name, text)?,
+            _ => return refused_text(alloc, &Refused::NoRevision, ends),
+        },
+        Answer::Revisions(revisions) => match question {
+            Question::OfFile(name, _) => revisions_body(alloc, name, revisions.as_slice())?,
+            _ => return refused_text(alloc, &Refused::NoRevision, ends),
+        },
+        Answer::Proposal(proposal) => match question {
+            Question::OfFile(name, _) => proposal_body(alloc, name, proposal)?,
+            _ => return refused_text(alloc, &Refused::NoRevision, ends),
+        },
+        // No question that a route asks has another answer.
+        Answer::NoRevision
+        | Answer::Why(_, _)
+        | Answer::Exports(_)
+        | Answer::Files(_)
+        | Answer::Foreseen(_)
+        | Answer::Site(_)
+        | Answer::Refused(_) => return refused_text(alloc, &Refused::NoRevision, ends),
     };
     reply_text(alloc, StatusCode::OK, body.as_str(), ends)
 }

@@ -134,6 +134,7 @@ fn refused_status(refused: &Refused) -> StatusCode
     match refused {
         Refused::Edit(refusal) => edit_status(refusal),
         Refused::NoRevision => StatusCode::NOT_FOUND,
+        Refused::OtherProposal => StatusCode::CONFLICT,
         Refused::Store | Refused::Schema | Refused::Memory => StatusCode::SERVICE_UNAVAILABLE,
     }
 }

@@ -9,7 +9,7 @@ use Rattle.desk_exports.specs.declared.entry.Flavour.{Flavour}
 use Rattle.desk_exports.specs.declared.entry.Mapping.{Mapping}
 use Rattle.desk_exports.specs.declared.entry.Mapping.TheVariants.{Root, All}
 use Rattle.desk_exports.specs.declared.entry.Terms.{Terms}
-use Rattle.desk_policy.specs.Acting.{act_as}
+use Rattle.desk_policy.specs.ActingAs.{act_as}
 use Rattle.desk_policy.specs.Policy.{Content}
 use Rattle.desk_policy.specs.Prints.{mount_text}
 use Rattle.desk_policy.specs.Verdict.{Grant}

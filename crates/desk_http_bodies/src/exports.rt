@@ -75,7 +75,7 @@ fn system_value(alloc: Global, policy: &Policy, shown: &Shown) -> Result<Value, 
 }
 
 /// Makes the values of directories.
-fn dir_values(alloc: Global, dirs: &[Path]) -> Result<Vec<Value>, AllocError>
+pub fn dir_values(alloc: Global, dirs: &[Path]) -> Result<Vec<Value>, AllocError>
     ensures { IfOk result (λ values. map data_of values.items ≡ map dir_data dirs.now) }
 {
     let mut values = Vec::new(alloc);

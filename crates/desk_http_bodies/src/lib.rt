@@ -8,7 +8,7 @@
 
 pub mod edits;
 pub mod exports;
-mod members;
+pub mod members;
 pub mod ranges;
 pub mod revisions;
 pub mod verdicts;

@@ -11,7 +11,7 @@ use serde_json::{Map, Value, put};
 use std::alloc::{AllocError, Global};
 
 /// Adds a member that is a text.
-pub(crate) fn put_text(
+pub fn put_text(
     alloc: Global,
     key: &str,
     text: &str,
@@ -24,7 +24,7 @@ pub(crate) fn put_text(
 }
 
 /// Adds a member that is a text, if there is one.
-pub(crate) fn put_text_if(
+pub fn put_text_if(
     alloc: Global,
     key: &str,
     text: &Option<Text>,
@@ -39,7 +39,7 @@ pub(crate) fn put_text_if(
 }
 
 /// Adds a member that is a number.
-pub(crate) fn put_number(
+pub fn put_number(
     alloc: Global,
     key: &str,
     number: u32,
@@ -51,7 +51,7 @@ pub(crate) fn put_number(
 }
 
 /// Adds a member that is a number, if there is one.
-pub(crate) fn put_number_if(
+pub fn put_number_if(
     alloc: Global,
     key: &str,
     number: Option<u32>,
@@ -66,7 +66,7 @@ pub(crate) fn put_number_if(
 }
 
 /// Adds a member that is true or false.
-pub(crate) fn put_flag(
+pub fn put_flag(
     alloc: Global,
     key: &str,
     flag: bool,

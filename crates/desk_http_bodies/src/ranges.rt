@@ -90,7 +90,8 @@ fn ended_range(
     }
 }
 
-fn address_text(alloc: Global, address: Addr) -> Result<String, AllocError>
+/// Writes an address as text.
+pub fn address_text(alloc: Global, address: Addr) -> Result<String, AllocError>
     ensures { IfOk result (λ text. string_bytes text ≡ addr_text (number_of address)) }
 {
     format!(in alloc; "{address}")

@@ -8,7 +8,8 @@ ghost use Rattle.serde_json.specs.Written.{compact_text};
 ghost use Rattle.desk_http_bodies.specs.Revisions.{file_data, proposal_data, revision_data, revisions_data};
 
 use crate::members::{put_number, put_text, put_text_if};
-use desk_service::{FileText, ProposalText};
+use desk_core::Proposal;
+use desk_service::FileText;
 use desk_store::Signature;
 use serde_json::{Map, Value, json};
 use std::alloc::{AllocError, Global};
@@ -48,11 +49,7 @@ fn put_file(
 }
 
 /// Writes the body of the proposal of a file.
-pub fn proposal_body(
-    alloc: Global,
-    name: &str,
-    proposal: &ProposalText,
-) -> Result<String, AllocError>
+pub fn proposal_body(alloc: Global, name: &str, proposal: &Proposal) -> Result<String, AllocError>
     ensures { IfOk result (λ body. string_bytes body ≡ compact_text (proposal_data name.now proposal.now)) }
 {
     let value = proposal_value(alloc, name, proposal)?;
@@ -60,7 +57,7 @@ pub fn proposal_body(
 }
 
 /// Makes the value of the proposal of a file.
-fn proposal_value(alloc: Global, name: &str, proposal: &ProposalText) -> Result<Value, AllocError>
+fn proposal_value(alloc: Global, name: &str, proposal: &Proposal) -> Result<Value, AllocError>
     ensures { IfOk result (λ value. view value ≡ proposal_data name.now proposal.now) }
 {
     let mut members = Map::new(alloc);
@@ -72,7 +69,7 @@ fn proposal_value(alloc: Global, name: &str, proposal: &ProposalText) -> Result<
 fn put_proposal(
     alloc: Global,
     name: &str,
-    proposal: &ProposalText,
+    proposal: &Proposal,
     members: &mut Map<String, Value>,
 ) -> Result<(), AllocError>
     requires { members.old.entries ≡ [] }

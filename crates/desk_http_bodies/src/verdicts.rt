@@ -7,7 +7,7 @@ ghost use Rattle.serde_json.specs.Data.{object, put as put_member, string};
 ghost use Rattle.serde_json.specs.View.{members_view, view as data_of};
 ghost use Rattle.serde_json.specs.Written.{compact_text};
 ghost use Rattle.desk_tables.specs.Credentials.{cred_text};
-ghost use Rattle.desk_policy.specs.Acting as acting;
+ghost use Rattle.desk_policy.specs.ActingAs as acting;
 ghost use Rattle.desk_policy.specs.Verdict.{verdict_result};
 ghost use Rattle.desk_http_bodies.specs.Verdicts as spec;
 ghost use Rattle.desk_http_bodies.specs.Verdicts.{denied_data, flavour_data, flavours_data, grant_data, mapped_cred, map_word, verdict_data};
@@ -35,7 +35,7 @@ pub fn verdict_body(
 }
 
 /// Makes the value of a verdict.
-fn verdict_value(
+pub fn verdict_value(
     alloc: Global,
     policy: &Policy,
     verdict: &Verdict<'_>,
@@ -122,7 +122,7 @@ fn put_grant(
 }
 
 /// Adds the flavours.
-fn put_flavours(
+pub fn put_flavours(
     alloc: Global,
     flavours: &[Flavour],
     members: &mut Map<String, Value>,
@@ -134,7 +134,7 @@ fn put_flavours(
 }
 
 /// Adds the credential as which the mapped clients act.
-fn put_mapped(
+pub fn put_mapped(
     alloc: Global,
     map: &Mapping,
     members: &mut Map<String, Value>,
@@ -172,7 +172,7 @@ fn flavour_values(alloc: Global, flavours: &[Flavour]) -> Result<Vec<Value>, All
 }
 
 /// Tells who is mapped.
-pub(crate) fn map_word(map: &Mapping) -> &'static str
+pub fn map_word(map: &Mapping) -> &'static str
     ensures { result.now ≡ spec.map_word map.now }
 {
     match map {

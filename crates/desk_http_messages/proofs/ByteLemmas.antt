@@ -1,8 +1,8 @@
 -- Bytes that are taken from a reader or given to a writer part by part.
-use Rattle.std.proofs.Common.{◌≡◌, ℕ, ◌+◌, ◌-◌, ◌≤◌, ◌<◌, List, [], ◌++◌, length, take, drop, slice_range, refl, sym, ap, ◌∙◌, arith, append_assoc, append-nil, Option, Some, None, Ok, Bool, false, ◌||◌, length-take, length-drop}
+use Rattle.std.proofs.Common.{◌≡◌, ℕ, ◌+◌, ◌-◌, ◌≤◌, ◌<◌, List, ◌++◌, length, take, drop, slice_range, sym, ap, ◌∙◌, arith, append_assoc, Option, Some, None, Ok, Bool, false, ◌||◌, length-take, length-drop}
 use Rattle.std.proofs.lemmas.Grind.{common_steps}
 use Rattle.desk_http_messages.specs.Transport.{took_none}
-use Rattle.std.specs.Io.KnownBytes.{Appends, Consumes, Keeps}
+use Rattle.std.specs.Io.KnownBytes.{Appends}
 use Rattle.std.proofs.lemmas.List.{drop-drop, drop-take}
 use Rattle.std.proofs.Math.Seq.{take-add}
 
@@ -12,33 +12,6 @@ Appends-append None b c xs ys p q = tt
 Appends-append (Some a) (Some b) (Some c) xs ys p q = q ∙ ap (λ l. l ++ ys) p ∙ append_assoc a xs ys
 Appends-append (Some a) (Some b) None xs ys p q = q
 Appends-append (Some a) None c xs ys p q = absurd p
-
-pub Appends-none : (a : Option (List ℕ)) → Appends a a []
-Appends-none None = tt
-Appends-none (Some a) = sym (append-nil a)
-
-pub Consumes-append : (a b c : Option (List ℕ)) (xs ys : List ℕ) → Consumes a b xs → Consumes b c ys → Consumes a c (xs ++ ys)
-Consumes-append None b c xs ys p q = tt
-Consumes-append (Some a) (Some b) (Some c) xs ys p q = p ∙ ap (λ l. xs ++ l) q ∙ sym (append_assoc xs ys c)
-Consumes-append (Some a) (Some b) None xs ys p q = q
-Consumes-append (Some a) None c xs ys p q = absurd p
-
-pub Consumes-none : (a : Option (List ℕ)) → Consumes a a []
-Consumes-none None = tt
-Consumes-none (Some a) = refl
-
--- a failed call leaves the known bytes
-pub Consumes-keeps : (a b c : Option (List ℕ)) (xs : List ℕ) → Consumes a b xs → Keeps b c → Consumes a c xs
-Consumes-keeps None b c xs p q = tt
-Consumes-keeps (Some a) (Some b) (Some c) xs p q = p ∙ ap (λ l. xs ++ l) (sym q)
-Consumes-keeps (Some a) (Some b) None xs p q = q
-Consumes-keeps (Some a) None c xs p q = absurd p
-
-pub Appends-keeps : (a b c : Option (List ℕ)) (xs : List ℕ) → Appends a b xs → Keeps b c → Appends a c xs
-Appends-keeps None b c xs p q = tt
-Appends-keeps (Some a) (Some b) (Some c) xs p q = q ∙ p
-Appends-keeps (Some a) (Some b) None xs p q = q
-Appends-keeps (Some a) None c xs p q = absurd p
 
 -- a text whose first i bytes were written, and then n more of it
 pub Appends_more : (a b c : Option (List ℕ)) (text : List ℕ) (i n : ℕ) → Appends a b (take i text) → Appends b c (take n (drop i text)) → Appends a c (take (i + n) text)
@@ -67,8 +40,3 @@ length-refilled bytes k n h = simp (length-take, length-drop) (omega arith)
 -- a write that took some bytes is no failure
 pub took_some : (E : Type 0) (was now : Bool) (n : ℕ) (bytes : List ℕ) → was ≡ false → 0 < n → now ≡ (was || took_none {E = E} bytes (Ok n)) → now ≡ false
 took_some E was now n bytes good some is = grind (arith, common_steps)
-
--- known bytes that nothing has touched
-pub Keeps-same : (a : Option (List ℕ)) → Keeps a a
-Keeps-same None = tt
-Keeps-same (Some a) = refl

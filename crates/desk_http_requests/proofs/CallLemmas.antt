@@ -13,14 +13,14 @@ use Rattle.desk_http_messages.specs.Asked.{Asked}
 use Rattle.desk_http_requests.specs.Calls.{Asks, IsCall, Puts, Query, action_of, are_named, first_fault, is_put, puts, query_asked, query_for, query_read}
 use Rattle.desk_http_requests.specs.Parameters.{parameters_of}
 use Rattle.desk_http_requests.specs.PrivateCalls.{AsksFor}
-use Rattle.desk_http_requests.specs.Routes.{Action, action_at, place_of}
+use Rattle.desk_http_requests.specs.Routes.{Action, action_of_place, place_of}
 use Rattle.desk_http_requests.specs.Target.{path_of, query_of}
 use Rattle.desk_http_requests.specs.declared.calls.Call.{Call}
 use Rattle.desk_http_requests.specs.declared.calls.Call.TheVariants as made
 use Rattle.desk_http_requests.specs.declared.faults.RequestFault.TheVariants as fault
 use Rattle.desk_http_requests.specs.declared.routes.Purpose.{Purpose}
 
-routed : (method : List ℕ) (place : Option ℕ) (a : Action) → option_and_then (action_at method) place ≡ Some a → is_none place ≡ false
+routed : (method : List ℕ) (place : Option ℕ) (a : Action) → option_and_then (action_of_place method) place ≡ Some a → is_none place ≡ false
 routed method None a h = cc
 routed method (Some place) a h = refl
 

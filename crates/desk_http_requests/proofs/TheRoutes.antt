@@ -9,7 +9,7 @@ use Rattle.matchit.specs.Rows.{RowsOf}
 use Rattle.matchit.specs.Router.{InsertsRead, RouteOf}
 use Rattle.matchit.proofs.OnLiterals.{matchit_on_literals}
 use Rattle.std.specs.Prelude.{find, slice_get}
-use Rattle.desk_http_requests.specs.Routes.{IsRouter, Route, action_in, action_among, route_in, routes}
+use Rattle.desk_http_requests.specs.Routes.{IsRouter, Route, action_in, action_of_method, route_in, routes}
 use Rattle.desk_http_requests.specs.declared.routes.Action.{Action as LentAction}
 use Rattle.desk_http_requests.specs.declared.routes.Route.{Route as LentRoute}
 use Rattle.std.proofs.lemmas.Option.{slice_get-get_or, slice_get-map}
@@ -35,7 +35,7 @@ text_in None = []
 text_in (Some text) = text
 
 -- one row more
-pub inserted : (i : ℕ) → i < 6 → (text : List ℕ) → slice_get paths i ≡ Some text → (old new : RowsOf (RouteOf ℕ)) → old ≡ take i the_rows → InsertsRead (parse_route text) i old new (Ok tt) → new ≡ take (i + 1) the_rows
+pub inserted : (i : ℕ) → i < length routes → (text : List ℕ) → slice_get paths i ≡ Some text → (old new : RowsOf (RouteOf ℕ)) → old ≡ take i the_rows → InsertsRead (parse_route text) i old new (Ok tt) → new ≡ take (i + 1) the_rows
 unfolding matchit_on_literals
 inserted zero below text at old new is adds = (subst (λ o. InsertsRead (parse_route (get_or paths 0 [])) 0 o new (Ok tt)) is (subst (λ t. InsertsRead (parse_route t) 0 old new (Ok tt)) (sym (ap text_in at)) adds)).1
 inserted (suc zero) below text at old new is adds = (subst (λ o. InsertsRead (parse_route (get_or paths 1 [])) 1 o new (Ok tt)) is (subst (λ t. InsertsRead (parse_route t) 1 old new (Ok tt)) (sym (ap text_in at)) adds)).1
@@ -59,12 +59,12 @@ pub finds_routes : ArePlain the_rows → IsRouter the_rows
 finds_routes plain path = ap (option_map (λ (x : RouteOf ℕ). x.value)) (first_plain the_rows path plain) ∙ found_place 0 routes path ∙ sym (position_from-zero (λ (route : Route). bytes_eq route.path path) routes)
 
 -- what is found among lent rows, by value
-pub found_among : (method : List ℕ) (rows : List LentAction) → option_map action_in (find (λ (row : LentAction). bytes_eq row.method.now method) rows) ≡ action_among method (map action_in rows)
+pub found_among : (method : List ℕ) (rows : List LentAction) → option_map action_in (find (λ (row : LentAction). bytes_eq row.method.now method) rows) ≡ action_of_method method (map action_in rows)
 found_among method [] = refl
 found_among method (row ∷ rows) = by (bytes_eq row.method.now method) (found_among method rows)
   where
-    by : (b : Bool) → option_map action_in (find (λ (r : LentAction). bytes_eq r.method.now method) rows) ≡ action_among method (map action_in rows)
-        → option_map action_in (cond b (Some row) (find (λ (r : LentAction). bytes_eq r.method.now method) rows)) ≡ cond b (Some (action_in row)) (action_among method (map action_in rows))
+    by : (b : Bool) → option_map action_in (find (λ (r : LentAction). bytes_eq r.method.now method) rows) ≡ action_of_method method (map action_in rows)
+        → option_map action_in (cond b (Some row) (find (λ (r : LentAction). bytes_eq r.method.now method) rows)) ≡ cond b (Some (action_in row)) (action_of_method method (map action_in rows))
     by true h = refl
     by false h = h
 
@@ -75,5 +75,6 @@ path_in items is place other below =
     ∙ slice_get-map (λ (route : Route). route.path) (map route_in items) place
     ∙ ap (option_map (λ (route : Route). route.path)) (slice_get-map route_in items place ∙ ap (option_map route_in) (slice_get-get_or items place other below))
 
-pub six : (items : List LentRoute) → map route_in items ≡ routes → length items ≡ 6
-six items is = sym (length-map items route_in) ∙ ap length is
+-- the lent table has as many routes
+pub as_many : (items : List LentRoute) → map route_in items ≡ routes → length items ≡ length routes
+as_many items is = sym (length-map items route_in) ∙ ap length is

@@ -14,7 +14,7 @@ use Rattle.desk_service.specs.Questions.{Listing, Mount, OfFile, Question, Text,
 use Rattle.desk_http_messages.specs.Asked.{Asked}
 use Rattle.desk_http_messages.specs.Head.{Header, header_values}
 use Rattle.desk_http_requests.specs.Parameters.{Parameter, at_most_one, each_read, one, parameters_of, values_of}
-use Rattle.desk_http_requests.specs.Routes.{Action, action_at, place_of}
+use Rattle.desk_http_requests.specs.Routes.{Action, action_of_place, place_of}
 use Rattle.desk_http_requests.specs.Target.{path_of, query_of}
 use Rattle.desk_http_requests.specs.declared.calls.Call.{Call as Made}
 use Rattle.desk_http_requests.specs.declared.calls.Call.TheVariants as made
@@ -106,7 +106,7 @@ query_for action parameters = if are_named action.names parameters then query_re
 
 -- what a request does, by its path and method
 abbrev pub action_of : Asked → Option Action
-action_of asked = option_and_then (action_at asked.method) (place_of (path_of asked.target))
+action_of asked = option_and_then (action_of_place asked.method) (place_of (path_of asked.target))
 
 -- what a request asks
 abbrev pub query_asked : Asked → Option Query

@@ -54,12 +54,12 @@ abbrev pub place_of : List ℕ → Option ℕ
 place_of path = position (λ route. bytes_eq route.path path) routes
 
 -- what a method does among these
-abbrev pub action_among : List ℕ → List Action → Option Action
-action_among method actions = find (λ action. bytes_eq action.method method) actions
+abbrev pub action_of_method : List ℕ → List Action → Option Action
+action_of_method method actions = find (λ action. bytes_eq action.method method) actions
 
 -- what a method does at the path of a place
-abbrev pub action_at : List ℕ → ℕ → Option Action
-action_at method place = option_and_then (λ route. action_among method route.actions) (slice_get routes place)
+abbrev pub action_of_place : List ℕ → ℕ → Option Action
+action_of_place method place = option_and_then (λ route. action_of_method method route.actions) (slice_get routes place)
 
 -- a router finds the place of each path
 abbrev pub IsRouter : RowsOf (RouteOf ℕ) → Type 0

@@ -167,11 +167,11 @@ fn find(router: &Router<usize>, path: &str) -> Option<usize>
 }
 
 /// Finds what a method does at the path of a place.
-fn action_at(method: &[u8], place: usize) -> Option<Action>
-    ensures { option_map action_in result ≡ spec.action_at method.now place }
+fn action_of_place(method: &[u8], place: usize) -> Option<Action>
+    ensures { option_map action_in result ≡ spec.action_of_place method.now place }
 {
     match route_at(place) {
-        Some(route) => action_among(method, route.actions),
+        Some(route) => action_of_method(method, route.actions),
         None => None,
     }
 }
@@ -187,7 +187,7 @@ fn route_at(place: usize) -> Option<Route>
 }
 
 /// Finds what a method does among these.
-fn action_among(method: &[u8], actions: &[Action]) -> Option<Action>
+fn action_of_method(method: &[u8], actions: &[Action]) -> Option<Action>
     ensures { result ≡ find (λ action. bytes_eq action.method.now method.now) actions.now }
 {
     actions
@@ -204,7 +204,7 @@ pub fn action_of(routes: &Routes, request: &Request<'_>) -> Result<Action, Reque
     let Some(place) = routes.find(path_of(request.target)) else {
         return Err(RequestFault::NoRoute);
     };
-    match action_at(request.method, place) {
+    match action_of_place(request.method, place) {
         Some(action) => Ok(action),
         None => Err(RequestFault::BadMethod),
     }

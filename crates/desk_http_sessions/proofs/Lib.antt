@@ -1,3 +1,3 @@
 pub mod ExchangeLemmas
 pub mod FollowLemmas
-pub mod GivenLemmas
+pub mod GivenBytesLemmas

@@ -8,7 +8,7 @@
 //! ```
 #![tactic(auto)]
 
-mod given;
+mod given_bytes;
 pub mod laws;
 pub mod session;
 pub mod wire;

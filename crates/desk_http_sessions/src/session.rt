@@ -9,7 +9,7 @@ ghost use Rattle.desk_http.specs.Connection.{AtDesk, Event, fresh, has_ended, is
 ghost use Rattle.desk_http_sessions.specs.Session.{AreReads, Exchanges, IsReceived, IsSent};
 ghost use Rattle.desk_http_sessions.specs.PrivateSession.{IsWithin, TakesIn, step_texts, unsent_of};
 
-use crate::given::{Given, Over};
+use crate::given_bytes::{Given, Over};
 use crate::wire::Wire;
 use desk_http::{Connection, ReplyText, Step};
 use desk_http_messages::End;

@@ -2,14 +2,14 @@
 use Rattle.std.proofs.Common.{◌≡◌, ℕ, ◌<◌, ◌^◌, ◌&&◌, ◌||◌, ◌++◌, ◌∙◌, Bool, true, false, List, [], ◌∷◌, Some, ap, arith, get_or, inl, inr, length, refl, subst, sym}
 use Rattle.std.specs.Prelude.{filter}
 use Rattle.std.specs.List.{AllByRecursion, Contains, list_any}
-use Rattle.std.proofs.lemmas.Bool.{and_from, and_parts, cases_lt, cases_order, eq-eqb, not-true, not_from_false, or_cases, or_from, or_left, or_parts, or_right, true≢false}
-use Rattle.std.proofs.lemmas.List.{get_or_default, get_or_past}
-use Rattle.std.proofs.lemmas.List.Elements.{All-contains, All-contains_itself, All-filter, All-get_or, recursion_from_All}
+use Rattle.std.proofs.lemmas.Bool.{and_from, and_parts, cases_order, eq-eqb, not-true, not_from_false, or_cases, or_from, or_left, or_parts, or_right, true≢false}
+use Rattle.std.proofs.lemmas.List.{get_or_default}
+use Rattle.std.proofs.lemmas.List.Elements.{All-contains, All-contains_itself, All-filter, recursion_from_All}
 use Rattle.std.proofs.lemmas.List.Folds.{list_any-append}
 use Rattle.desk_text.specs.Path.{same_path}
 use Rattle.desk_tables.specs.FileSystems.{fs_of}
 use Rattle.desk_policy.specs.Listings.{written}
-use Rattle.desk_policy.specs.Policy.{AreAscending, Content, IsContent, rows_of}
+use Rattle.desk_policy.specs.Policy.{AreAscending, Content, rows_of}
 use Rattle.desk_policy.specs.Verdict.{is_directory_among, is_in, lists, verdict_among, verdict_in, verdict_of}
 use Rattle.desk_policy.specs.Weights.{is_greatest, selected, weight_of}
 use Rattle.desk_policy.specs.declared.row.Row.{Row}
@@ -49,14 +49,6 @@ unfolding selected
 selected_has rows address row has =
     let test : Row → Bool = λ other. is_greatest rows address (weight_of other address) in
     All-contains (Contains rows) (filter test rows) row (All-filter test (Contains rows) rows (All-contains_itself rows)) has
-
--- the lines of each file system ascend
-pub content_ascends : (content : Content) → IsContent content → (fs : ℕ) → AreAscending (rows_of content fs)
-content_ascends content is fs =
-    elim (cases_lt fs (length content.rows)) [
-      | inl within ↦ All-get_or AreAscending content.rows fs [] within is.ascending
-      | inr past ↦ subst AreAscending (sym (get_or_past content.rows fs [] past)) (λ i j d lt inside. absurd (omega arith))
-    ]
 
 -- lines of one number are one
 pub one_line : (rows : List Row) (row other : Row) → AreAscending rows → Contains rows row → Contains rows other → row.entry.line ≡ other.entry.line → row ≡ other

@@ -13,12 +13,12 @@ use Rattle.desk_who.specs.Searching.{AreFoundStarts, ByRule, Rule, found_at}
 use Rattle.desk_who.proofs.Kept.{same_runs}
 use Rattle.desk_impact.specs.Impact.{AreStartsOfChanges, IsImpact, change_value, verdicts_at}
 use Rattle.desk_impact.specs.declared.changes.TwoVerdicts.{TwoVerdicts as KeptVerdicts}
-use Rattle.desk_impact.specs.Known.{IsKnownChange, fs_number}
+use Rattle.desk_impact.specs.KnownSystems.{IsKnownChange, fs_number}
 use Rattle.desk_impact.specs.Places.{Others, place_verdicts, taken_by, verdict_elsewhere}
-use Rattle.desk_impact.specs.PrivateKnown.{AreFoundOfOthers, AreKnownFindings, HasLearnedChange, HasLearnedFindings, IsKnownAt}
+use Rattle.desk_impact.specs.PrivateKnownSystems.{AreFoundOfOthers, AreKnownFindings, HasLearnedChange, HasLearnedFindings, IsKnownAt}
 use Rattle.desk_impact.specs.PrivatePlaces.{IsFree}
 use Rattle.desk_impact.specs.Sections.{found_elsewhere, found_of}
-use Rattle.desk_impact.specs.declared.known.Known.{Known}
+use Rattle.desk_impact.specs.declared.known_systems.Known.{Known}
 use Rattle.desk_impact.proofs.Found.{found_of_others}
 use Rattle.desk_impact.proofs.Reporting.{changes_of_others, same_impact}
 use Rattle.desk_impact.proofs.Same.{Path}
@@ -60,10 +60,6 @@ known_last known one old new is is' = record {
   old_is = is;
   new_is = is';
 }
-
--- what is known of file systems is known of those that they are
-pub known_as : {T : Type 0} (known : List (Known T)) (was will old new : Option ℕ) (place : ℕ) → was ≡ old → will ≡ new → IsKnownAt known was will place → IsKnownAt known old new place
-known_as known was will old new place is is' at = record { one = at.one; within = at.within; there = at.there; old_is = at.old_is ∙ is; new_is = at.new_is ∙ is' }
 
 module _ (path other : Path) (taken : List Path) (free : IsFree path taken other) where
   pub learned_change : (old new : Content) (known : List (Known KeptVerdicts)) (one : Known KeptVerdicts) (place : ℕ) → All (Contains taken) (taken_by old new) → place ≡ length known

@@ -11,6 +11,7 @@ pub mod Elsewhere
 pub mod Covering
 pub mod Reporting
 pub mod OtherLines
+pub mod Listing
 pub mod HavingOthers
 pub mod FoundElsewhere
 pub mod Found

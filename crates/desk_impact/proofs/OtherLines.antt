@@ -123,10 +123,10 @@ module _ (law : SameSayingsAreNoChange) (before lines : Content) (fs : ℕ) (tab
   own : rows_of lines fs ≡ rows_of after fs
   own = sym (get_or-set_same before.rows fs (rows_of lines fs) [] within)
 
-  same_verdicts : (place : Place) → is_place_in before.table fs place ≡ true → (address : ℕ) → place_verdicts before lines place address ≡ place_verdicts before after place address
+  pub same_verdicts : (place : Place) → is_place_in before.table fs place ≡ true → (address : ℕ) → place_verdicts before lines place address ≡ place_verdicts before after place address
   same_verdicts place here address = ap (λ v. record { before = place_verdict before place address; after = v }) (same_place after lines fs table own place here address)
 
-  same_changes : (verdicts : ℕ → TwoVerdicts) (changes : List (Run TwoVerdicts)) → IsImpact before lines verdicts changes → IsImpact before after verdicts changes
+  pub same_changes : (verdicts : ℕ → TwoVerdicts) (changes : List (Run TwoVerdicts)) → IsImpact before lines verdicts changes → IsImpact before after verdicts changes
   same_changes verdicts changes impact = record {
     whole = impact.whole;
     runs = impact.runs;
@@ -246,7 +246,7 @@ module _ (law : SameSayingsAreNoChange) (before lines : Content) (fs : ℕ) (tab
     only = λ k d inside. All-contains (Contains other) given _ all (are.only k d inside);
   }
 
-  places_are : (places : List Place) → ArePlacesWith before (rows_of lines fs) places → ArePlaces before after places
+  pub places_are : (places : List Place) → ArePlacesWith before (rows_of lines fs) places → ArePlaces before after places
   places_are places are = record {
     mounts = are.mounts;
     dirs = are.dirs;

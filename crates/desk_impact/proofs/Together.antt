@@ -11,9 +11,9 @@ use Rattle.desk_policy.specs.Policy.{Content, rows_of}
 use Rattle.desk_policy.specs.Verdict.{is_directory_among, verdict_in, verdict_of}
 use Rattle.desk_policy.specs.Weights.{is_greatest, selected, weight_of}
 use Rattle.desk_policy.specs.declared.row.Row.{Row}
-use Rattle.desk_who.specs.Beside.{AreStartsWithin, GoTogether}
+use Rattle.desk_who.specs.MostlySame.{AreStartsWithin, GoTogether}
 use Rattle.desk_who.specs.Searching.{AreFoundStarts, AsksThoseThatMatch, Rule, found_at}
-use Rattle.desk_impact.specs.Beside.{ChangesGoTogether}
+use Rattle.desk_impact.specs.MostlySame.{ChangesGoTogether}
 use Rattle.desk_impact.specs.Impact.{AreStartsOfChanges, SayTheSameOn, TwoVerdicts, saying, verdicts_at}
 use Rattle.desk_impact.specs.Places.{Others, dirs_of_both, mounts_of_both, place_verdict, place_verdicts, verdict_elsewhere}
 use Rattle.desk_impact.specs.Sections.{found_elsewhere, found_of}

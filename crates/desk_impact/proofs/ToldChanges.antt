@@ -3,12 +3,12 @@ use Rattle.std.proofs.Common.{◌≡◌, ℕ, ◌+◌, Bool, false, cond, List, 
 use Rattle.std.specs.Prelude.{Option, Some, None, filter}
 use Rattle.std.proofs.lemmas.Bool.{cases_Bool, false_from_ne_true, true≢false}
 use Rattle.desk_policy.specs.Policy.{Content}
-use Rattle.desk_who.specs.Beside.{GoTogether}
+use Rattle.desk_who.specs.MostlySame.{GoTogether}
 use Rattle.desk_who.specs.Runs.{AreRunsWithValue, Run, RunsExist, RunsPassTests, RunsWithValueAreUnique, passing}
 use Rattle.desk_who.specs.Who.{VerdictsAreDiscrete}
-use Rattle.desk_impact.specs.Beside.{ChangesGoTogether}
+use Rattle.desk_impact.specs.MostlySame.{ChangesGoTogether}
 use Rattle.desk_impact.specs.Impact.{IsImpact, TwoVerdicts, saying}
-use Rattle.desk_impact.specs.PrivateBeside.{IsChangeAt}
+use Rattle.desk_impact.specs.PrivateMostlySame.{IsChangeAt}
 use Rattle.desk_impact.proofs.Telling.{says_otherwise, says_otherwise_decides, two_pairs}
 
 module _ (compare : VerdictsAreDiscrete) (before after : Content) where

@@ -1,9 +1,9 @@
 -- Where no line matches that only one of two policies has, both say the same.
-use Rattle.std.proofs.Common.{◌≡◌, ℕ, ◌+◌, ◌<◌, ◌^◌, ◌&&◌, not, Bool, false, cond, List, [], ◌∷◌, ◌++◌, append-nil, length, take, get_or, refl, sym, ap, ◌∙◌, subst, inl, inr}
+use Rattle.std.proofs.Common.{◌≡◌, ℕ, ◌+◌, ◌<◌, ◌^◌, ◌&&◌, not, Bool, false, cond, List, [], ◌∷◌, ◌++◌, append-nil, refl, sym, ap, ◌∙◌, subst, inl, inr}
 use Rattle.std.specs.Prelude.{Option, Some, None, filter, find, is_none}
 use Rattle.std.specs.List.{AllByRecursion, list_all}
 use Rattle.std.proofs.lemmas.Bool.{cases_Bool}
-use Rattle.std.proofs.lemmas.List.{append_assoc, take_more}
+use Rattle.std.proofs.lemmas.List.{append_assoc}
 use Rattle.std.proofs.lemmas.List.Elements.{filter-append, filter_agree}
 use Rattle.desk_text.specs.AddrSet.{is_among}
 use Rattle.desk_tables.specs.FileSystems.{fs_of}
@@ -14,14 +14,8 @@ use Rattle.desk_policy.specs.declared.row.Row.{Row}
 use Rattle.desk_policy.proofs.VerdictLines.{among_agree, lists_same}
 use Rattle.desk_who.specs.Starts.{IsSteadyLine}
 use Rattle.desk_impact.specs.Impact.{AreStartsOfBoth, AreStartsOfChanges, HasNoLine, IsNotListed, mount_at, saying}
-use Rattle.desk_impact.specs.PrivateUnlike.{AreHomes, AreStartsOfUnlike, AreUnlike, IsPast, NoneMatches, matching}
+use Rattle.desk_impact.specs.PrivateUnlikeLines.{AreHomes, AreStartsOfUnlike, AreUnlike, IsPast, NoneMatches, matching}
 use Rattle.desk_impact.proofs.Same.{Path}
-
--- ---- lists that are the same as far as they were compared
--- equal lists, compared one value further
-pub same_further : {X : Type 0} (xs ys : List X) (i : ℕ) (d : X) → i < length xs → length xs ≡ length ys → get_or xs i d ≡ get_or ys i d → take i xs ≡ take i ys → take (i + 1) xs ≡ take (i + 1) ys
-same_further xs ys i d below long here so_far =
-    take_more xs i d below ∙ ap (λ front. front ++ get_or xs i d ∷ []) so_far ∙ ap (λ x. take i ys ++ x ∷ []) here ∙ sym (take_more ys i d (subst (λ n. i < n) long below))
 
 -- ---- lines that do not match an address do not count there
 abbrev is_matching : ℕ → Row → Bool

@@ -3,17 +3,17 @@
 ghost use Rattle.std.specs.Prelude.{◌≡◌, All, IfOk, OnOk, map};
 ghost use Rattle.desk_tables.specs.FileSystems.{fs_of};
 ghost use Rattle.desk_impact.specs.Impact.{IsImpact, change_value, verdicts_at};
-ghost use Rattle.desk_impact.specs.Known.{IsKnownChange, fs_number};
+ghost use Rattle.desk_impact.specs.KnownSystems.{IsKnownChange, fs_number};
 ghost use Rattle.desk_impact.specs.Places.{AreInOrder, paths_in, place_of, place_verdicts, taken_by};
-ghost use Rattle.desk_impact.specs.PrivateKnown.{HasLearnedChange};
+ghost use Rattle.desk_impact.specs.PrivateKnownSystems.{HasLearnedChange};
 ghost use Rattle.desk_impact.specs.Writings.{AreWritings};
 
-use crate::beside::impact_beside;
 use crate::changes::{Change, TwoVerdicts, impact};
-use crate::known::{Known, copied, known_place};
+use crate::known_systems::{Known, copied, known_place};
+use crate::mostly_same::impact_beside;
 use crate::places::{Place, path_of};
-use crate::unlike::starts_of_changes;
-use crate::unwritten::free_path;
+use crate::unlike_lines::starts_of_changes;
+use crate::unwritten_path::free_path;
 use crate::writings::{Writing, writers};
 use desk_policy::PolicyView;
 use desk_text::{Path, Sequence};

@@ -35,11 +35,11 @@ pub fn places_of_both<'a>(
 {
     let mounts = in_order(mounts_of_both(alloc, before, after)?);
     let dirs = in_order(dirs_of_both(alloc, before, after)?);
-    places_among(alloc, mounts.as_slice(), dirs.as_slice())
+    places_of_mounts(alloc, mounts.as_slice(), dirs.as_slice())
 }
 
 /// Lists the places of a policy, and of the same with these lines for one of its file systems.
-pub(crate) fn places_with<'a>(
+pub(crate) fn places_of_proposed<'a>(
     alloc: Global,
     policy: &'a Policy,
     rows: &'a [Row],
@@ -48,11 +48,11 @@ pub(crate) fn places_with<'a>(
 {
     let mounts = in_order(mounts_of_both(alloc, policy, policy)?);
     let dirs = in_order(dirs_with(alloc, policy, rows)?);
-    places_among(alloc, mounts.as_slice(), dirs.as_slice())
+    places_of_mounts(alloc, mounts.as_slice(), dirs.as_slice())
 }
 
 /// Lists the places of these mount points, of which these directories are written; both are in byte order.
-pub(crate) fn places_among<'a>(
+pub(crate) fn places_of_mounts<'a>(
     alloc: Global,
     mounts: &[&'a Path],
     dirs: &[&'a Path],
@@ -67,7 +67,7 @@ pub(crate) fn places_among<'a>(
 }
 
 /// Chooses the places in a file system.
-pub(crate) fn places_in<'a>(
+pub(crate) fn places_of_system<'a>(
     alloc: Global,
     table: &FileSystems,
     fs: FsId,
@@ -99,7 +99,7 @@ fn push_if_in<'a>(
 }
 
 /// Tests whether a place is in a file system.
-fn is_place_in(table: &FileSystems, fs: FsId, place: Place<'_>) -> bool
+pub(crate) fn is_place_in(table: &FileSystems, fs: FsId, place: Place<'_>) -> bool
     ensures { result ≡ is_place_in table.now fs.0 (place_of place.entry) }
 {
     match table.of(path_of(place)) {

@@ -13,7 +13,7 @@ use crate::change_prints::impact_text;
 use crate::changes::{Change, those_that_matter};
 use crate::laws::same_sayings_are_no_change;
 use crate::place_changes::changes_at;
-use crate::places::{Place, places_in, places_of_both, places_with, taken_paths};
+use crate::places::{Place, places_of_both, places_of_proposed, places_of_system, taken_paths};
 use crate::writings::writings_of_both;
 use desk_policy::{Policy, PolicyView};
 use desk_tables::FsId;
@@ -58,8 +58,8 @@ pub fn lines_report<V: PolicyView>(
     same_sayings_are_no_change();
     let policy = before.policy();
     let _rows = policy.rows_by_filesystem();
-    let places = places_with(alloc, policy, lines.policy().rows(fs))?;
-    let own = places_in(alloc, policy.filesystems(), fs, places.as_slice())?;
+    let places = places_of_proposed(alloc, policy, lines.policy().rows(fs))?;
+    let own = places_of_system(alloc, policy.filesystems(), fs, places.as_slice())?;
     report_of(alloc, before, lines, own.as_slice(), all)
 }
 

@@ -9,7 +9,7 @@ ghost use Rattle.desk_impact.specs.Places.{all_written, paths_in, place_of};
 ghost use Rattle.desk_impact.specs.Sections.{AreFoundIn, ArePlacesBelow, has_some, place_found, roots_below};
 
 use crate::place_findings::findings_at;
-use crate::places::{Place, in_order, places_among, push_all_written, taken_paths};
+use crate::places::{Place, in_order, places_of_mounts, push_all_written, taken_paths};
 use crate::writings::writings_of_both;
 use desk_policy::{Policy, Verdict};
 use desk_tables::Mount;
@@ -100,7 +100,7 @@ pub fn places_below<'a>(
 {
     let roots = in_order(roots_below(alloc, policy, dir)?);
     let dirs = in_order(all_written(alloc, policy)?);
-    places_among(alloc, roots.as_slice(), dirs.as_slice())
+    places_of_mounts(alloc, roots.as_slice(), dirs.as_slice())
 }
 
 /// Lists a directory and the mount points under it, among them the directory itself if it is one.

@@ -72,11 +72,6 @@ numbered_chosen rows ascending (row ∷ chosen) all =
     let found : find (is_numbered row.entry.line) rows ≡ Some row = find_line rows ascending has.0 row has.1 (sym has.2) row.entry.line refl in
     ap (λ o. cons_option o (filter_map (λ number. find (is_numbered number) rows) (numbers chosen))) found ∙ ap (λ (rs : List Row). row ∷ rs) (numbered_chosen rows ascending chosen (All-tail (Contains rows) row chosen all))
 
--- none is chosen of no lines
-pub none_chosen : (rows chosen : List Row) → rows ≡ [] → All (Contains rows) chosen → chosen ≡ []
-none_chosen rows [] none all = refl
-none_chosen rows (row ∷ chosen) none all = (let has = All-head (Contains rows) row chosen all in let few = ap length none in let within = has.1 in absurd (omega arith))
-
 -- the selected lines are lines
 pub selected_among : (rows : List Row) (address : ℕ) → All (Contains rows) (selected rows address)
 unfolding selected

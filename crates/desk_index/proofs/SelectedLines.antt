@@ -150,10 +150,6 @@ module _ (fs : FsId) (listing : Row → Bool) where
   among_unlisted [] line more e f = cc
   among_unlisted (first ∷ others) line more e f = ap (granted_by fs first) e ∙ ap (λ n. Err (denials.NotListed fs n)) (let s : first.entry.line ≡ line = cc in s)
 
-  pub among_empty : (rows : List Row) → numbers rows ≡ [] → verdict_among fs listing rows ≡ Err (denials.NoLine fs)
-  among_empty [] e = refl
-  among_empty (x ∷ others) e = cc
-
 pub none_listed : (xs : List ℕ) → listed xs ≡ None → xs ≡ []
 none_listed [] e = refl
 none_listed (x ∷ xs) e = cc

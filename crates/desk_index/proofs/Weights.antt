@@ -1,12 +1,10 @@
 -- The weights of the keys that have lines.
-use Rattle.std.proofs.Common.{◌≡◌, ℕ, ◌+◌, ◌<◌, ◌≤◌, ◌++◌, true, false, eqb, get_or, length, not, List, [], ◌∷◌, Option, Some, None, IsSome, sym, ◌∙◌, ap, subst, refl, inl, inr, arith}
+use Rattle.std.proofs.Common.{◌≡◌, ℕ, ◌+◌, ◌<◌, ◌≤◌, true, false, eqb, get_or, length, not, List, [], ◌∷◌, Option, Some, None, IsSome, sym, ◌∙◌, ap, subst, refl, inl, inr, arith}
 use Rattle.std.specs.Prelude.{slice_get}
 use Rattle.std.specs.List.{All, AllPairs, Contains}
 use Rattle.std.specs.Option.{is_some}
-use Rattle.std.proofs.lemmas.Bool.{cases_Bool, cases_order, cond_both, eqb-true, true≢false}
+use Rattle.std.proofs.lemmas.Bool.{cases_Bool, cases_order, cond_both, eqb-true}
 use Rattle.std.proofs.lemmas.List.{get_or_past}
-use Rattle.std.proofs.lemmas.List.Elements.{All-push, Contains-append_left, Contains-push}
-use Rattle.std.proofs.lemmas.List.Quantifiers.{all_pairs_push}
 use Rattle.std.proofs.lemmas.Option.{slice_get-get_or}
 use Rattle.desk_text.specs.Address.{number_of}
 use Rattle.desk_text.specs.Network.{covers}
@@ -15,7 +13,7 @@ use Rattle.desk_policy.specs.Keys as lines
 use Rattle.desk_policy.specs.Policy.{Content, rows_of}
 use Rattle.desk_policy.specs.declared.row.Row.{Row}
 use Rattle.desk_index.specs.Keys.{AreWeights, fs_of_key, key_weight, line_key, lines_under, lines_with, listed}
-use Rattle.desk_index.specs.PrivateKeyed.{AreUsed, KeepsRows, has_keys, slot_of}
+use Rattle.desk_index.specs.PrivateKeyed.{KeepsRows, has_keys, slot_of}
 use Rattle.desk_index.specs.PrivateSlot.{Keeps, is_among, is_empty}
 use Rattle.desk_index.specs.declared.keyed.Keyed.{Keyed}
 use Rattle.desk_index.specs.declared.keys.Key.{Key}
@@ -30,45 +28,6 @@ pub record UsedSoFar (weights : List ℕ) (slots : List Slot) (from : ℕ) : Typ
   pub behind : All (λ weight. from ≤ weight) weights
   pub descending : AllPairs (λ one later. later < one) weights
   pub all : (weight : ℕ) → from ≤ weight → weight < 35 → has_keys (slice_get slots weight) ≡ true → Contains weights weight
-
-pub none_used : (weights : List ℕ) (slots : List Slot) → weights ≡ [] → UsedSoFar weights slots 35
-none_used weights slots is = subst (λ (ws : List ℕ). UsedSoFar ws slots 35) (sym is) (record {
-  below = λ k d inside. absurd (omega arith);
-  behind = λ k d inside. absurd (omega arith);
-  descending = λ i j d lt inside. absurd (omega arith);
-  all = λ weight ge lt has. absurd (omega arith);
-})
-
-pub used_more : (weights : List ℕ) (slots : List Slot) (from weight : ℕ) → from ≡ weight + 1 → weight < 35 → UsedSoFar weights slots from → UsedSoFar (weights ++ weight ∷ []) slots weight
-used_more weights slots from weight next small so_far = record {
-  below = All-push (λ (w : ℕ). w < 35) weights weight so_far.below small;
-  behind = All-push (λ (w : ℕ). weight ≤ w) weights weight (λ k d inside. let b = so_far.behind k d inside in omega arith) (omega arith);
-  descending = all_pairs_push (λ (one later : ℕ). later < one) weights weight so_far.descending (λ k d inside. let b = so_far.behind k d inside in omega arith);
-  all = λ other ge lt has. elim (cases_order other weight) [
-    | inl same ↦ subst (Contains (weights ++ weight ∷ [])) (sym same) (Contains-push weights weight)
-    | inr s ↦ elim s [
-      | inl less ↦ absurd (omega arith)
-      | inr more ↦ Contains-append_left weights (weight ∷ []) other (so_far.all other (omega arith) lt has)
-    ]
-  ];
-}
-
-pub unused_more : (weights : List ℕ) (slots : List Slot) (from weight : ℕ) → from ≡ weight + 1 → has_keys (slice_get slots weight) ≡ false → UsedSoFar weights slots from → UsedSoFar weights slots weight
-unused_more weights slots from weight next fails so_far = record {
-  below = so_far.below;
-  behind = λ k d inside. let b = so_far.behind k d inside in omega arith;
-  descending = so_far.descending;
-  all = λ other ge lt has. elim (cases_order other weight) [
-    | inl same ↦ absurd (true≢false (sym has ∙ ap (λ n. has_keys (slice_get slots n)) same ∙ fails))
-    | inr s ↦ elim s [
-      | inl less ↦ absurd (omega arith)
-      | inr more ↦ so_far.all other (omega arith) lt has
-    ]
-  ];
-}
-
-pub used_all : (weights : List ℕ) (slots : List Slot) → UsedSoFar weights slots 0 → AreUsed weights slots
-used_all weights slots so_far = record { below = so_far.below; descending = so_far.descending; all = λ weight lt has. so_far.all weight (omega arith) lt has }
 
 -- ---- the weights of keys that have lines
 

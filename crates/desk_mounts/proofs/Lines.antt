@@ -1,7 +1,7 @@
 -- What the lines of a text list together, line by line.
-use Rattle.std.proofs.Common.{◌≡◌, ℕ, ◌+◌, ◌<◌, ◌≤◌, ◌++◌, List, [], ◌∷◌, Option, Result, Ok, Err, ap, get_or, length, map, refl, sym, subst, take, drop, ◌∙◌}
+use Rattle.std.proofs.Common.{◌≡◌, ℕ, ◌+◌, ◌<◌, ◌++◌, List, [], ◌∷◌, Option, Result, Ok, Err, ap, get_or, length, map, sym, subst, take, drop, ◌∙◌}
 use Rattle.std.specs.List.{cons_option, filter_map}
-use Rattle.std.proofs.lemmas.List.{append-nil, drop_more, map-append, take_all, take_more, take-append-drop}
+use Rattle.std.proofs.lemmas.List.{append-nil, drop_more, map-append, take_more, take-append-drop}
 use Rattle.std.proofs.lemmas.List.Elements.{filter_map-append}
 use Rattle.desk_text.specs.Lines.{LogicalLine, logical_lines}
 use Rattle.desk_text.specs.Reading.{Reads, ReadsAs, answered_value, fault_at, fault_of, read_lines, unless_fault, value_of}
@@ -20,9 +20,6 @@ pub record AreRead (lines : List LogicalLine) (found : Paths) : Type 0 where
   pub sound : filter_map fault_of (map answered lines) ≡ []
   pub are : filter_map value_of (map answered lines) ≡ found
 
-pub none_yet : AreRead [] []
-none_yet = record { sound = refl; are = refl }
-
 -- one line more, which is not faulty
 pub one_more : (lines : List LogicalLine) (i : ℕ) (line : LogicalLine) → i < length lines → line ≡ get_or lines i line → (listed : Option (List (List ℕ))) → line_answer line ≡ Ok listed
     → (found : Paths) → AreRead (take i lines) found → AreRead (take (i + 1) lines) (found ++ cons_option listed [])
@@ -37,13 +34,6 @@ one_more lines i line below is listed good found so_far =
           ∙ ap (λ (r : Result (Option (List (List ℕ))) Rule). filter_map value_of (map answered (take i lines)) ++ cons_option (answered_value r) []) good
           ∙ ap (λ (paths : Paths). paths ++ cons_option listed []) so_far.are;
     })
-
--- no line is faulty
-pub all_read : (lines : List LogicalLine) (i : ℕ) (found : Paths) → length lines ≤ i → AreRead (take i lines) found → read_lines (map answered lines) ≡ Ok found
-all_read lines i found over so_far =
-    let all : take i lines ≡ lines = take_all i lines over in
-    ap (λ (faults : List (LineFault Rule)). unless_fault faults (filter_map value_of (map answered lines))) (ap (λ ls. filter_map fault_of (map answered ls)) (sym all) ∙ so_far.sound)
-    ∙ ap Ok (ap (λ ls. filter_map value_of (map answered ls)) (sym all) ∙ so_far.are)
 
 -- a line is the first faulty one
 pub first_faulty : (lines : List LogicalLine) (i : ℕ) (line : LogicalLine) → i < length lines → line ≡ get_or lines i line → (rule : Rule) → line_answer line ≡ Err rule

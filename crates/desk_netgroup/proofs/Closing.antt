@@ -63,10 +63,6 @@ module _ (lines : List GroupLine) where
   off_from group [] host h = (refl, h)
   off_from group (inner ∷ chain) host h = (refl, h.0, off_from inner chain host h.1)
 
-  starts_off : (met : List (List ℕ)) (group : List ℕ) (chain : List (List ℕ)) (host : List ℕ) → LeadsOff met group chain host → is_among group met ≡ false
-  starts_off met group [] host h = h.0
-  starts_off met group (inner ∷ chain) host h = h.0
-
   not_either : (a b : Bool) → a ≡ false → b ≡ false → (a || b) ≡ false
   not_either a b p q = ap (λ x. x || b) p ∙ q
 

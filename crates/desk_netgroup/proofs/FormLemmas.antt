@@ -13,7 +13,7 @@ use Rattle.desk_text.specs.Views.{line_of_part}
 use Rattle.desk_text.specs.declared.lines.Part.{Part}
 use Rattle.desk_netgroup.specs.Faults.{has_unclosed, is_close}
 use Rattle.desk_netgroup.specs.GroupLine.{followed_by, host_member, members}
-use Rattle.desk_netgroup.specs.PrivateLine.{after_close, after_comma, after_field, after_triple, host_field, is_open_after}
+use Rattle.desk_netgroup.specs.PrivateLine.{after_triple, host_field, is_open_after}
 use Rattle.desk_netgroup.specs.Token.{tokens}
 use Rattle.desk_netgroup.specs.declared.group_line.Member.{Member}
 use Rattle.desk_netgroup.specs.declared.token.Token.{Token}
@@ -58,43 +58,6 @@ open_read None old new token ts is triple more = ap (λ t. members (t ∷ ts)) i
 open_read (Some after) old new token ts is triple more =
     ap (λ t. followed_by old (members (t ∷ ts))) is ∙ ap (followed_by old) (open_some ts after.now (sym triple))
     ∙ followed_twice old (host_member (host_field ts)) (members after.now) ∙ ap (λ ms. followed_by ms (members after.now)) (sym more)
-
--- what stands after a triple is shorter
-field_short : (ts : List Token) → length (after_field ts) ≤ length ts
-field_short [] = omega arith
-field_short (Word word ∷ ts) = omega arith
-field_short (Open ∷ ts) = omega arith
-field_short (Close ∷ ts) = omega arith
-field_short (Comma ∷ ts) = omega arith
-
-comma_short : (ts more : List Token) → after_comma ts ≡ Some more → length more ≤ length ts
-comma_short [] more e = absurd (cc)
-comma_short (Word word ∷ ts) more e = absurd (cc)
-comma_short (Open ∷ ts) more e = absurd (cc)
-comma_short (Close ∷ ts) more e = absurd (cc)
-comma_short (Comma ∷ ts) more e = (let same : ts ≡ more = cc in let l = ap (λ (xs : List Token). length xs) same in omega arith)
-
-close_short : (ts more : List Token) → after_close ts ≡ Some more → length more ≤ length ts
-close_short [] more e = absurd (cc)
-close_short (Word word ∷ ts) more e = absurd (cc)
-close_short (Open ∷ ts) more e = absurd (cc)
-close_short (Comma ∷ ts) more e = absurd (cc)
-close_short (Close ∷ ts) more e = (let same : ts ≡ more = cc in let l = ap (λ (xs : List Token). length xs) same in omega arith)
-
-then_short : (o : Option (List Token)) (f : List Token → Option (List Token)) (n : ℕ) (more : List Token)
-    → ((ts : List Token) → o ≡ Some ts → length ts ≤ n) → ((ts rest : List Token) → f ts ≡ Some rest → length rest ≤ length ts) → option_and_then f o ≡ Some more → length more ≤ n
-then_short None f n more first next e = absurd (cc)
-then_short (Some ts) f n more first next e = (let a = first ts refl in let b = next ts more e in omega arith)
-
-pub triple_short : (ts more : List Token) → after_triple ts ≡ Some more → length more ≤ length ts
-triple_short ts more e =
-    then_short (after_comma (after_field ts)) (λ user. option_and_then (λ domain. after_close (after_field domain)) (after_comma (after_field user))) (length ts) more
-    (λ user h. let a = comma_short (after_field ts) user h in let b = field_short ts in omega arith)
-    (λ user rest h. then_short (after_comma (after_field user)) (λ domain. after_close (after_field domain)) (length user) rest
-    (λ domain k. let a = comma_short (after_field user) domain k in let b = field_short user in omega arith)
-    (λ domain last k. let a = close_short (after_field domain) last k in let b = field_short domain in omega arith)
-    h)
-    e
 
 -- ---- parentheses
 

@@ -1,11 +1,10 @@
 -- Lemmas on indexes.
-use Rattle.std.proofs.Common.{◌≡◌, ◌<◌, ◌≤◌, ◌+◌, ◌++◌, cond, ℕ, Bool, true, false, eqb, List, [], ◌∷◌, Option, None, Some, find, length, length-append, take, get_or, ap, sym, ◌∙◌, inl, inr, refl, not, arith}
+use Rattle.std.proofs.Common.{◌≡◌, ◌≤◌, ◌+◌, ◌++◌, cond, ℕ, Bool, true, false, eqb, List, [], ◌∷◌, Option, None, Some, find, length, length-append, ap, sym, ◌∙◌, inl, inr, refl, not, arith}
 use Rattle.std.specs.Prelude.{if◌then◌else◌, nat_lt, option_and_then, slice_get}
 use Rattle.std.specs.List.{position, position_or_len}
 use Rattle.std.specs.Option.{option_or}
 use Rattle.std.proofs.lemmas.Bool.{cases_Bool}
 use Rattle.std.proofs.lemmas.Bool.Decides.{nat_tests}
-use Rattle.std.proofs.lemmas.List.{length-take-le, take_more}
 use Rattle.std.proofs.lemmas.List.Folds.{find_at, position_or_len_push}
 use Rattle.std.proofs.lemmas.List.Sums.{prefix_len-le-length}
 use Rattle.std.proofs.lemmas.Option.{slice_get_past}
@@ -26,13 +25,6 @@ module _ {X : Type 0} (p : X → Bool) where
       ap (λ n. inside n (length (xs ++ x ∷ []))) (position_or_len_push p xs x)
       ∙ ap (inside (cond (eqb (position_or_len p xs) (length xs)) (length xs + cond (p x) 0 1) (position_or_len p xs))) (length-append xs (x ∷ []))
       ∙ push_at (position_or_len p xs) (length xs) (eqb (position_or_len p xs) (length xs)) (p x) refl (prefix_len-le-length (λ y. not (p y)) xs)
-
-  -- the first place, one value on
-  pub place_more : (xs : List X) (i : ℕ) (x : X) → i < length xs → x ≡ get_or xs i x → option_or (position p (take i xs)) (if p x then Some i else None) ≡ position p (take (i + 1) xs)
-  place_more xs i x below is =
-      let up : take (i + 1) xs ≡ take i xs ++ x ∷ [] = take_more xs i x below ∙ ap (λ y. take i xs ++ y ∷ []) (sym is) in
-      let len : length (take i xs) ≡ i = length-take-le i xs (omega (arith, below)) in
-      ap (λ n. option_or (position p (take i xs)) (if p x then Some n else None)) (sym len) ∙ sym (place_push (take i xs) x) ∙ ap (position p) (sym up)
 
   -- what is found is at the first place
   pub found_there : (xs : List X) → option_and_then (slice_get xs) (position p xs) ≡ find p xs

@@ -107,15 +107,6 @@ first_word text n is some =
     ∙ whole_words (take n text) (drop n text) (omega (arith, length-take-le n text within, some))
     (ap (λ k. list_all is_of_word (take k text)) is ∙ all_take text) (ap (λ k. begins_with_word (drop k text)) is ∙ ends_there text)
 
--- a text that does not begin with a word
-pub first_mark : (text : List ℕ) → 0 < length text → prefix_len is_of_word text ≡ 0 → tokens text ≡ mark_tokens (get_or text 0 0) ++ tokens (drop 1 text)
-first_mark [] some none = absurd (omega arith)
-first_mark (c ∷ text) some none =
-    no_word c text (elim (cases_Bool (is_of_word c)) [
-      | inl h ↦ absurd (let e = sym (cond-true (is_of_word c) (1 + prefix_len is_of_word text) 0 h) ∙ none in omega arith)
-      | inr h ↦ h
-    ])
-
 -- ---- the tokens so far, and those of the rest
 
 pub next_word : (all done new : List Token) (rest word after : List ℕ) (n : ℕ) → n ≡ prefix_len is_of_word rest → 0 < n → word ≡ take n rest → after ≡ drop n rest
@@ -123,12 +114,6 @@ pub next_word : (all done new : List Token) (rest word after : List ℕ) (n : �
 next_word all done new rest word after n is some w a more so_far =
     ap (λ ts. ts ++ tokens after) (more ∙ ap (λ t. done ++ Word t ∷ []) w) ∙ append_assoc done (Word (take n rest) ∷ []) (tokens after)
     ∙ ap (λ t. done ++ Word (take n rest) ∷ tokens t) a ∙ ap (λ ts. done ++ ts) (sym (first_word rest n is some)) ∙ so_far
-
-pub next_mark : (all done new : List Token) (rest after : List ℕ) → 0 < length rest → prefix_len is_of_word rest ≡ 0 → after ≡ drop 1 rest
-    → new ≡ done ++ mark_tokens (get_or rest 0 0) → done ++ tokens rest ≡ all → new ++ tokens after ≡ all
-next_mark all done new rest after some none a more so_far =
-    ap (λ ts. ts ++ tokens after) more ∙ append_assoc done (mark_tokens (get_or rest 0 0)) (tokens after)
-    ∙ ap (λ t. done ++ (mark_tokens (get_or rest 0 0) ++ tokens t)) a ∙ ap (λ ts. done ++ ts) (sym (first_mark rest some none)) ∙ so_far
 
 -- ---- where a text may be cut
 

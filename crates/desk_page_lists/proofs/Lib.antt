@@ -1,2 +1,3 @@
+mod Gathering
 mod Quoted
 mod Quoting

@@ -1,38 +1,44 @@
--- What a cell of a table names. (this project's own, over HTML)
-use Rattle.std.specs.Prelude.{ℕ, List, ◌++◌, codes, drop, length, nat_le, take, if◌then◌else◌}
-use Rattle.std.specs.Fmt.{decimal}
-use Rattle.std.specs.List.{join_by}
-use Rattle.desk_page.specs.Amounts.{and_more}
-use Rattle.desk_page.specs.Pieces.{code, system_link}
+-- What a cell of a table names. (this project's own)
+use Rattle.std.specs.Prelude.{ℕ, ◌==◌, List, [], ◌∷◌, ◌++◌, codes, drop, length, take, if◌then◌else◌}
+use Rattle.std.specs.List.{flat_map}
+use Rattle.page_html.specs.Items.{AndMore, Item, Nothing, Words, Own, Code, SystemLine, items_html}
+use Rattle.page_html.specs.Items as items
 use Rattle.desk_page_lists.specs.declared.mentions.Mention.{Mention}
 use Rattle.desk_page_lists.specs.declared.mentions.Mention.TheVariants.{Group, Host, Line, System}
 
--- a link to a line, with the name of its file system
-abbrev pub line_start : ℕ → ℕ → List ℕ
-line_start fs line = codes "<a href=\"#f" ++ decimal fs ++ codes "-" ++ decimal line ++ codes "\">"
+-- what is said before the name: that it is one of a netgroup which is a member of another one
+abbrev pub kind : Mention → Item (List ℕ)
+kind (System fs name) = Own Nothing
+kind (Line fs name line) = Own Nothing
+kind (Host name) = Own Nothing
+kind (Group name) = Own (Words (codes "group "))
 
-abbrev pub line_end : ℕ → List ℕ
-line_end line = codes " line&nbsp;" ++ decimal line ++ codes "</a>"
+-- the name, with a link to a file system or to a line of it
+abbrev pub named : Mention → Item (List ℕ)
+named (System fs name) = items.System fs.0 name.now
+named (Line fs name line) = SystemLine fs.0 name.now line
+named (Host name) = Code name.now
+named (Group name) = Code name.now
 
-abbrev pub line_of : ℕ → List ℕ → ℕ → List ℕ
-line_of fs name line = line_start fs line ++ code name ++ line_end line
+-- one that is named, and one behind another
+abbrev pub mention : Mention → List (Item (List ℕ))
+mention one = kind one ∷ named one ∷ []
 
--- a netgroup that is a member of another one
-abbrev pub group : List ℕ → List ℕ
-group name = codes "group " ++ code name
-
--- one that is named
-abbrev pub mention : Mention → List ℕ
-mention (System fs name) = system_link fs.0 name.now
-mention (Line fs name line) = line_of fs.0 name.now line
-mention (Host name) = code name.now
-mention (Group name) = group name.now
+abbrev pub later : Mention → List (Item (List ℕ))
+later one = Own (Words (codes ", ")) ∷ mention one
 
 -- all that are, with commas between
-abbrev pub all_of : List Mention → List ℕ
-all_of mentions = join_by mention (codes ", ") mentions
+abbrev pub all_of : List Mention → List (Item (List ℕ))
+all_of [] = []
+all_of (first ∷ others) = mention first ++ flat_map later others
 
 -- so many of them at the most, and how many more there are
+abbrev pub some_items : ℕ → List Mention → List (Item (List ℕ))
+some_items most mentions = all_of (take most mentions) ++ Own (AndMore (length (drop most mentions))) ∷ []
+
 unfoldable pub some_of : ℕ → List Mention → List ℕ
-some_of most mentions =
-    if nat_le (length mentions) most then all_of mentions else all_of (take most mentions) ++ and_more (length (drop most mentions))
+some_of most mentions = items_html (some_items most mentions)
+
+-- the same, or what is said if none are
+abbrev pub some_or : ℕ → Item (List ℕ) → List Mention → List (Item (List ℕ))
+some_or most nothing mentions = if length mentions == 0 then nothing ∷ [] else some_items most mentions

@@ -1,22 +1,37 @@
 //! The files of a site, and their newest revisions.
 
-ghost use Rattle.std.specs.Prelude.{◌≡◌, ◌++◌, OnOk};
+ghost use Rattle.std.specs.Prelude.{◌≡◌, ◌++◌, OnOk, map};
 ghost use Rattle.std.specs.Option.{option_copied};
 ghost use Rattle.std.specs.String.{string_bytes};
+ghost use Rattle.page_html.specs.Parts.{item_of};
+ghost use Rattle.page_html.specs.Tables.{row_html, rows_html};
 ghost use Rattle.desk_page_lists.specs.Files as spec;
 
-use crate::tables::{
-    Table, push_code_cell, push_long_end, push_long_start, push_number_cell, push_row_end,
-    push_row_head, push_table_end, push_table_start,
-};
+use crate::tables::{number_of, push_long_end, push_long_start};
 use desk_core::Head;
-use desk_page::{push_code, push_count_cell, push_escaped};
 use desk_policy::SiteFile;
 use desk_text::Text;
+use page_html::{Column, Frame, Part, Tag, Title, push_row, push_table_start, push_tag};
 use std::alloc::{AllocError, Global};
 
 /// More rows than these are folded.
 const OPEN: u64 = 40;
+
+/// The table.
+const FILES: Frame = Frame {
+    class: "h",
+    is_titled: true,
+    columns: &[
+        Column::Name("File"),
+        Column::Count("Revision"),
+        Column::Plain("Author"),
+        Column::Plain("Approver"),
+        Column::Plain("Profile"),
+        Column::Count("Bytes"),
+        Column::Plain("SHA-256 of the text"),
+        Column::Plain("Remark"),
+    ],
+};
 
 /// A file: its newest revision, if it has one, with the digest of its text; who proposes another text, if somebody does; and whether it is
 /// the exports file of no file system that is listed.
@@ -33,184 +48,156 @@ pub struct FileRow<'a> {
 pub fn push_files(alloc: Global, rows: &[FileRow<'_>], page: &mut String) -> Result<(), AllocError>
     ensures { OnOk result (string_bytes page.new ≡ string_bytes page.old ++ spec.files rows.now) }
 {
-    push_long_start(alloc, OPEN, rows.len() as u64, "file", "files", page)?;
-    push_table_start(Table::Files, page)?;
+    let count = rows.len() as u64;
+    push_long_start(alloc, OPEN, count, "file", "files", page)?;
+    push_table_start(
+        alloc,
+        &FILES,
+        &[Title::Said("Files and their newest revisions")],
+        page,
+    )?;
     push_rows(alloc, rows, page)?;
-    push_table_end(page)?;
-    push_long_end(OPEN, rows.len() as u64, page)?;
+    push_tag(Tag::TableEnd, page)?;
+    push_long_end(OPEN, count, page)?;
     Ok(())
 }
 
 /// Adds rows.
-#[tactic(auto, unfolding(crate::specs::Files::rows))]
+#[tactic(auto, unfolding(page_html::specs::Tables::rows_html))]
 fn push_rows(alloc: Global, rows: &[FileRow<'_>], page: &mut String) -> Result<(), AllocError>
-    ensures { OnOk result (string_bytes page.new ≡ string_bytes page.old ++ spec.rows rows.now) }
+    ensures { OnOk result (string_bytes page.new ≡ string_bytes page.old ++ rows_html spec.frame (map spec.cells rows.now)) }
 {
     for row in rows {
-        push_row(alloc, row, page)?;
+        push_file(alloc, row, page)?;
     }
     Ok(())
 }
 
 /// Adds a row.
-fn push_row(alloc: Global, row: &FileRow<'_>, page: &mut String) -> Result<(), AllocError>
-    ensures { OnOk result (string_bytes page.new ≡ string_bytes page.old ++ spec.row row.now) }
+fn push_file(alloc: Global, row: &FileRow<'_>, page: &mut String) -> Result<(), AllocError>
+    ensures { OnOk result (string_bytes page.new ≡ string_bytes page.old ++ row_html spec.frame (spec.cells row.now)) }
 {
-    push_row_head(row.file, page)?;
-    push_newest(alloc, row.head, row.digest, page)?;
-    push_remarks_cell(row.proposer, row.is_unlisted, page)?;
-    push_row_end(page)?;
-    Ok(())
-}
-
-/// Adds the cells of the newest revision, if there is one.
-fn push_newest(
-    alloc: Global,
-    head: Option<&Head>,
-    digest: &str,
-    page: &mut String,
-) -> Result<(), AllocError>
-    ensures { OnOk result (string_bytes page.new ≡ string_bytes page.old ++ spec.newest (option_copied head.entry) digest.now) }
-{
-    match head {
-        None => push_no_revision(page),
-        Some(head) => push_revision(alloc, head, digest, page),
+    match row.head {
+        None => push_unwritten(alloc, row, page),
+        Some(head) => push_written(alloc, row, head, page),
     }
 }
 
-/// Adds the cells of no revision.
-fn push_no_revision(page: &mut String) -> Result<(), AllocError>
-    ensures { OnOk result (string_bytes page.new ≡ string_bytes page.old ++ spec.no_revision) }
+/// Adds the row of a file that has no revision.
+fn push_unwritten(alloc: Global, row: &FileRow<'_>, page: &mut String) -> Result<(), AllocError>
+    ensures { OnOk result (string_bytes page.new ≡ string_bytes page.old ++ row_html spec.frame (spec.unwritten row.now)) }
 {
-    page.push_str("<td class=\"num\">-</td><td>-</td><td>-</td><td>-</td>")?;
-    page.push_str("<td class=\"num\">-</td><td>-</td>")?;
-    Ok(())
+    let remark = remark_of(row);
+    let cells: [&[Part<'_>]; 8] = [
+        &[Part::Code(row.file)],
+        &[dash()],
+        &[dash()],
+        &[dash()],
+        &[dash()],
+        &[dash()],
+        &[dash()],
+        &remark,
+    ];
+    push_row(alloc, &FILES, &cells, page)
 }
 
-/// Adds the cells of a revision.
-fn push_revision(
+/// Returns what stands for nothing.
+fn dash<'a>() -> Part<'a>
+    ensures { item_of result ≡ spec.dash }
+{
+    Part::Words("-")
+}
+
+/// Adds the row of a file that has one.
+fn push_written<'a>(
     alloc: Global,
-    head: &Head,
-    digest: &str,
+    row: &FileRow<'a>,
+    head: &'a Head,
     page: &mut String,
 ) -> Result<(), AllocError>
-    ensures { OnOk result (string_bytes page.new ≡ string_bytes page.old ++ spec.revision head.now digest.now) }
+    ensures { OnOk result (string_bytes page.new ≡ string_bytes page.old ++ row_html spec.frame (spec.written row.now head.now)) }
 {
-    push_signed(alloc, head, page)?;
-    push_profile_cell(head, page)?;
-    push_text_cells(alloc, head, digest, page)?;
-    Ok(())
+    let remark = remark_of(row);
+    let cells: [&[Part<'_>]; 8] = [
+        &[Part::Code(row.file)],
+        &[number_of(head.rev)],
+        &[author_of(head)],
+        &[approver_of(head)],
+        &[profile_of(head)],
+        &[size_of(head)],
+        &[Part::Digest(row.digest)],
+        &remark,
+    ];
+    push_row(alloc, &FILES, &cells, page)
 }
 
-/// Adds the number of a revision, who wrote it, and who approved it.
-fn push_signed(alloc: Global, head: &Head, page: &mut String) -> Result<(), AllocError>
-    ensures { OnOk result (string_bytes page.new ≡ string_bytes page.old ++ spec.signed head.now) }
+/// Returns who wrote a revision.
+fn author_of<'a>(head: &'a Head) -> Part<'a>
+    ensures { item_of result ≡ spec.author head.now }
 {
-    push_number_cell(alloc, head.rev, page)?;
-    push_code_cell(head.author.as_str(), page)?;
-    push_approver_cell(&head.approver, page)?;
-    Ok(())
+    Part::Code(head.author.as_str())
 }
 
-/// Adds a cell with who approved a revision, if somebody did.
-fn push_approver_cell(approver: &Option<Text>, page: &mut String) -> Result<(), AllocError>
-    ensures { OnOk result (string_bytes page.new ≡ string_bytes page.old ++ spec.approver_cell approver.now) }
+/// Returns who approved a revision, if somebody did.
+fn approver_of<'a>(head: &'a Head) -> Part<'a>
+    ensures { item_of result ≡ spec.approver head.now.approver }
 {
-    match approver {
-        None => page.push_str("<td>-</td>"),
-        Some(name) => push_code_cell(name.as_str(), page),
+    match &head.approver {
+        None => dash(),
+        Some(name) => Part::Code(name.as_str()),
     }
 }
 
-/// Adds a cell with the profile of an exports file.
-fn push_profile_cell(head: &Head, page: &mut String) -> Result<(), AllocError>
-    ensures { OnOk result (string_bytes page.new ≡ string_bytes page.old ++ spec.profile_cell head.now) }
+/// Returns the profile of an exports file.
+fn profile_of<'a>(head: &'a Head) -> Part<'a>
+    ensures { item_of result ≡ spec.profile head.now }
 {
     if SiteFile::is_name(head.file.as_str()) {
-        page.push_str("<td>-</td>")
+        dash()
     } else {
-        push_profile_number(head.profile.number(), page)
+        Part::Digits(head.profile.number())
     }
 }
 
-/// Adds a cell with the number of a profile.
-fn push_profile_number(number: u32, page: &mut String) -> Result<(), AllocError>
-    ensures { OnOk result (string_bytes page.new ≡ string_bytes page.old ++ spec.profile_number_cell number) }
+/// Returns how many bytes the text of a revision has.
+fn size_of<'a>(head: &'a Head) -> Part<'a>
+    ensures { item_of result ≡ spec.size head.now }
 {
-    write!(page, "<td>{number}</td>")
+    Part::Number(head.body.as_str().len() as u64)
 }
 
-/// Adds the cells of how many bytes a text has, and of its digest.
-fn push_text_cells(
-    alloc: Global,
-    head: &Head,
-    digest: &str,
-    page: &mut String,
-) -> Result<(), AllocError>
-    ensures { OnOk result (string_bytes page.new ≡ string_bytes page.old ++ spec.text_cells head.now digest.now) }
+/// Returns what is remarkable of a file.
+fn remark_of<'a>(row: &FileRow<'a>) -> [Part<'a>; 3]
+    ensures { map item_of result ≡ spec.remark (option_copied row.now.proposer) row.now.is_unlisted }
 {
-    push_size_cell(alloc, head.body.as_str(), page)?;
-    page.push_str("<td><code class=\"sha\">")?;
-    push_escaped(digest, page)?;
-    page.push_str("</code></td>")?;
-    Ok(())
-}
-
-/// Adds a cell with how many bytes a text has.
-fn push_size_cell(alloc: Global, text: &str, page: &mut String) -> Result<(), AllocError>
-    ensures { OnOk result (string_bytes page.new ≡ string_bytes page.old ++ spec.size_cell text.now) }
-{
-    push_count_cell(alloc, text.len() as u64, page)
-}
-
-/// Adds a cell with what is remarkable of a file.
-fn push_remarks_cell(
-    proposer: Option<&Text>,
-    is_unlisted: bool,
-    page: &mut String,
-) -> Result<(), AllocError>
-    ensures { OnOk result (string_bytes page.new ≡ string_bytes page.old ++ spec.remarks_cell (option_copied proposer.entry) is_unlisted) }
-{
-    page.push_str("<td>")?;
-    push_remarks(proposer, is_unlisted, page)?;
-    page.push_str("</td>")?;
-    Ok(())
-}
-
-/// Adds what is remarkable of a file.
-fn push_remarks(
-    proposer: Option<&Text>,
-    is_unlisted: bool,
-    page: &mut String,
-) -> Result<(), AllocError>
-    ensures { OnOk result (string_bytes page.new ≡ string_bytes page.old ++ spec.remarks (option_copied proposer.entry) is_unlisted) }
-{
-    match proposer {
-        None => page.push_str(unlisted_alone(is_unlisted)),
-        Some(name) => push_proposal(name.as_str(), is_unlisted, page),
+    match row.proposer {
+        None => [
+            unlisted_or(row.is_unlisted, "unlisted", "-"),
+            Part::Nothing,
+            Part::Nothing,
+        ],
+        Some(name) => proposed_by(name, row.is_unlisted),
     }
 }
 
-/// Returns that a file is not listed, if it is not, where nothing else is remarkable.
-fn unlisted_alone(is_unlisted: bool) -> &'static str
-    ensures { result.now ≡ spec.unlisted_alone is_unlisted }
+/// Returns who proposes another text.
+fn proposed_by<'a>(name: &'a Text, is_unlisted: bool) -> [Part<'a>; 3]
+    ensures { map item_of result ≡ spec.proposed_by name.now is_unlisted }
 {
-    if is_unlisted { "unlisted" } else { "-" }
+    [
+        Part::Words("proposal by "),
+        Part::Code(name.as_str()),
+        unlisted_or(is_unlisted, ", unlisted", ""),
+    ]
 }
 
-/// Adds who proposes another text, and whether the file is not listed.
-fn push_proposal(name: &str, is_unlisted: bool, page: &mut String) -> Result<(), AllocError>
-    ensures { OnOk result (string_bytes page.new ≡ string_bytes page.old ++ spec.proposal name.now is_unlisted) }
+/// Returns that a file is not listed, if it is not, or other words.
+fn unlisted_or<'a>(is_unlisted: bool, unlisted: &'static str, other: &'static str) -> Part<'a>
+    ensures { item_of result ≡ spec.unlisted_or is_unlisted unlisted.now other.now }
 {
-    page.push_str("proposal by ")?;
-    push_code(name, page)?;
-    page.push_str(unlisted_too(is_unlisted))?;
-    Ok(())
-}
-
-/// Returns that a file is not listed, if it is not, behind another remark.
-fn unlisted_too(is_unlisted: bool) -> &'static str
-    ensures { result.now ≡ spec.unlisted_too is_unlisted }
-{
-    if is_unlisted { ", unlisted" } else { "" }
+    if is_unlisted {
+        Part::Words(unlisted)
+    } else {
+        Part::Words(other)
+    }
 }

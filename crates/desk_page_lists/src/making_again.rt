@@ -5,66 +5,73 @@ ghost use Rattle.std.specs.String.{string_bytes};
 ghost use Rattle.desk_page_lists.specs.MakingAgain as spec;
 
 use crate::shell::shell_word;
-use desk_page::push_escaped;
+use page_html::{Element, Part, push_element};
 use std::alloc::{AllocError, Global};
-
-/// What stands behind the commands.
-const SAME: &str =
-    " exports:MOUNT | sha256sum</code></pre>\n<p>The page has no date and no name of a machine: one version of exportdesk makes the same page, to the byte, of the same state and the same name of the database.</p>\n";
 
 /// Adds the commands that make the page again and compare it, with the word for the database.
 pub fn push_make_again(alloc: Global, database: &str, page: &mut String) -> Result<(), AllocError>
     ensures { OnOk result (string_bytes page.new ≡ string_bytes page.old ++ spec.make_again database.now) }
 {
     let word = shell_word(alloc, database)?;
-    push_commands(word.as_str(), page)
+    push_again(alloc, word.as_str(), page)
 }
 
-/// Adds the commands.
-fn push_commands(word: &str, page: &mut String) -> Result<(), AllocError>
+/// Adds the commands between a heading and what is said of them.
+fn push_again(alloc: Global, word: &str, page: &mut String) -> Result<(), AllocError>
+    ensures { OnOk result (string_bytes page.new ≡ string_bytes page.old ++ spec.again word.now) }
+{
+    push_heading(alloc, page)?;
+    push_commands(alloc, word, page)?;
+    push_same(alloc, page)?;
+    Ok(())
+}
+
+/// Adds the heading.
+fn push_heading(alloc: Global, page: &mut String) -> Result<(), AllocError>
+    ensures { OnOk result (string_bytes page.new ≡ string_bytes page.old ++ spec.heading) }
+{
+    push_element(
+        alloc,
+        Element::Heading,
+        &[Part::Words("Make it again, and compare")],
+        page,
+    )
+}
+
+/// Adds the command that makes the page, the one that compares it, and the one that gives the digest of a text.
+fn push_commands(alloc: Global, word: &str, page: &mut String) -> Result<(), AllocError>
     ensures { OnOk result (string_bytes page.new ≡ string_bytes page.old ++ spec.commands word.now) }
 {
-    page.push_str("<h3>Make it again, and compare</h3>\n<pre><code>")?;
-    push_made(word, page)?;
-    push_compared(word, page)?;
-    push_digest(word, page)?;
-    Ok(())
+    push_element(
+        alloc,
+        Element::Commands,
+        &[
+            Part::Words("exportdesk report "),
+            Part::Text(word),
+            Part::Words(" >report.html"),
+            Part::NewLine,
+            Part::Words("exportdesk report "),
+            Part::Text(word),
+            Part::Words(" | cmp - report.html"),
+            Part::NewLine,
+            Part::Words("exportdesk cat "),
+            Part::Text(word),
+            Part::Words(" exports:MOUNT | sha256sum"),
+        ],
+        page,
+    )
 }
 
-/// Adds the command that makes the page.
-fn push_made(word: &str, page: &mut String) -> Result<(), AllocError>
-    ensures { OnOk result (string_bytes page.new ≡ string_bytes page.old ++ spec.made word.now) }
-{
-    page.push_str("exportdesk report ")?;
-    push_escaped(word, page)?;
-    page.push_str(" &gt;report.html\n")?;
-    Ok(())
-}
-
-/// Adds the command that compares it.
-fn push_compared(word: &str, page: &mut String) -> Result<(), AllocError>
-    ensures { OnOk result (string_bytes page.new ≡ string_bytes page.old ++ spec.compared word.now) }
-{
-    page.push_str("exportdesk report ")?;
-    push_escaped(word, page)?;
-    page.push_str(" | cmp - report.html\n")?;
-    Ok(())
-}
-
-/// Adds the command that gives the digest of a text.
-fn push_digest(word: &str, page: &mut String) -> Result<(), AllocError>
-    ensures { OnOk result (string_bytes page.new ≡ string_bytes page.old ++ spec.digest word.now) }
-{
-    page.push_str("exportdesk cat ")?;
-    push_escaped(word, page)?;
-    push_same(page)?;
-    Ok(())
-}
-
-/// Adds what stands behind the commands.
-#[tactic(auto, unfolding(crate::specs::MakingAgain::same))]
-fn push_same(page: &mut String) -> Result<(), AllocError>
+/// Adds what is said of the commands.
+fn push_same(alloc: Global, page: &mut String) -> Result<(), AllocError>
     ensures { OnOk result (string_bytes page.new ≡ string_bytes page.old ++ spec.same) }
 {
-    page.push_str(SAME)
+    push_element(
+        alloc,
+        Element::Paragraph,
+        &[Part::Words(
+            "The page has no date and no name of a machine: one version of exportdesk makes the same page, to the byte, of the same state and the same name of the database.",
+        )],
+        page,
+    )
 }

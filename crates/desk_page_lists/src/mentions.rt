@@ -1,12 +1,13 @@
 //! What a cell of a table names, of much only the first.
 
-ghost use Rattle.std.specs.Prelude.{◌≡◌, ◌++◌, OnOk, codes};
+ghost use Rattle.std.specs.Prelude.{◌≡◌, ◌++◌, IfOk, OnOk, map};
 ghost use Rattle.std.specs.List.{flat_map};
 ghost use Rattle.std.specs.String.{string_bytes};
+ghost use Rattle.page_html.specs.Parts.{item_of};
 ghost use Rattle.desk_page_lists.specs.Mentions as spec;
 
-use desk_page::{push_and_more, push_code, push_system_link};
 use desk_tables::FsId;
+use page_html::{Part, push_parts};
 use std::alloc::{AllocError, Global};
 
 /// What a cell names.
@@ -23,7 +24,6 @@ pub enum Mention<'a> {
 }
 
 /// Adds the first of what a cell names, and how many more there are.
-#[tactic(auto, unfolding(crate::specs::Mentions::some_of))]
 pub fn push_some(
     alloc: Global,
     mentions: &[Mention<'_>],
@@ -32,80 +32,94 @@ pub fn push_some(
 ) -> Result<(), AllocError>
     ensures { OnOk result (string_bytes page.new ≡ string_bytes page.old ++ spec.some_of most mentions.now) }
 {
-    if mentions.len() <= most {
-        return push_mentions(mentions, page);
+    let parts = some_parts(alloc, mentions, most)?;
+    push_parts(alloc, parts.as_slice(), page)
+}
+
+/// Gathers the first of what a cell names, and how many more there are; or what it says if that is nothing.
+pub(crate) fn some_or<'a>(
+    alloc: Global,
+    mentions: &[Mention<'a>],
+    most: usize,
+    nothing: Part<'a>,
+) -> Result<Vec<Part<'a>>, AllocError>
+    ensures { IfOk result (λ parts. map item_of parts.items ≡ spec.some_or most (item_of nothing.entry) mentions.now) }
+{
+    if mentions.is_empty() {
+        let mut parts = Vec::new(alloc);
+        parts.push(nothing)?;
+        Ok(parts)
+    } else {
+        some_parts(alloc, mentions, most)
     }
-    let (named, others) = mentions.split_at(most);
-    push_mentions(named, page)?;
-    push_and_more(alloc, others.len() as u64, page)
+}
+
+/// Gathers the first of what a cell names, and how many more there are.
+fn some_parts<'a>(
+    alloc: Global,
+    mentions: &[Mention<'a>],
+    most: usize,
+) -> Result<Vec<Part<'a>>, AllocError>
+    ensures { IfOk result (λ parts. map item_of parts.items ≡ spec.some_items most mentions.now) }
+{
+    let (named, others) = mentions.split_at(most.min(mentions.len()));
+    let mut parts = Vec::new(alloc);
+    push_mentions(named, &mut parts)?;
+    parts.push(Part::AndMore(others.len() as u64))?;
+    Ok(parts)
 }
 
 /// Adds what is named, with commas between.
-fn push_mentions(mentions: &[Mention<'_>], page: &mut String) -> Result<(), AllocError>
-    ensures { OnOk result (string_bytes page.new ≡ string_bytes page.old ++ spec.all_of mentions.now) }
+fn push_mentions<'a>(mentions: &[Mention<'a>], parts: &mut Vec<Part<'a>>) -> Result<(), AllocError>
+    ensures { OnOk result (map item_of parts.new.items ≡ map item_of parts.old.items ++ spec.all_of mentions.now) }
 {
     match mentions {
         [] => Ok(()),
         [first, others @ ..] => {
-            push_mention(first, page)?;
-            push_later(others, page)
+            push_mention(*first, parts)?;
+            push_later(others, parts)
         }
     }
 }
 
 /// Adds what is named behind the first.
-fn push_later(mentions: &[Mention<'_>], page: &mut String) -> Result<(), AllocError>
-    ensures { OnOk result (string_bytes page.new ≡ string_bytes page.old ++ flat_map (λ one. codes ", " ++ spec.mention one) mentions.now) }
+fn push_later<'a>(mentions: &[Mention<'a>], parts: &mut Vec<Part<'a>>) -> Result<(), AllocError>
+    ensures { OnOk result (map item_of parts.new.items ≡ map item_of parts.old.items ++ flat_map spec.later mentions.now) }
 {
     for mention in mentions {
-        page.push_str(", ")?;
-        push_mention(mention, page)?;
+        parts.push(Part::Words(", "))?;
+        push_mention(*mention, parts)?;
     }
     Ok(())
 }
 
 /// Adds one that is named.
-fn push_mention(mention: &Mention<'_>, page: &mut String) -> Result<(), AllocError>
-    ensures { OnOk result (string_bytes page.new ≡ string_bytes page.old ++ spec.mention mention.now) }
+fn push_mention<'a>(mention: Mention<'a>, parts: &mut Vec<Part<'a>>) -> Result<(), AllocError>
+    ensures { OnOk result (map item_of parts.new.items ≡ map item_of parts.old.items ++ spec.mention mention.entry) }
 {
-    match *mention {
-        Mention::System(fs, name) => push_system_link(fs, name, page),
-        Mention::Line(fs, name, line) => push_line(fs, name, line, page),
-        Mention::Host(name) => push_code(name, page),
-        Mention::Group(name) => push_group(name, page),
+    parts.push(kind_of(mention))?;
+    parts.push(named(mention))?;
+    Ok(())
+}
+
+/// Returns what is said of a kind before the name.
+fn kind_of<'a>(mention: Mention<'a>) -> Part<'a>
+    ensures { item_of result ≡ spec.kind mention.entry }
+{
+    match mention {
+        Mention::Group(_) => Part::Words("group "),
+        _ => Part::Nothing,
     }
 }
 
-/// Adds a link to a line, with the name of its file system.
-fn push_line(fs: FsId, name: &str, line: u32, page: &mut String) -> Result<(), AllocError>
-    ensures { OnOk result (string_bytes page.new ≡ string_bytes page.old ++ spec.line_of fs.0 name.now line) }
+/// Returns the name, with a link to a file system or to a line.
+fn named<'a>(mention: Mention<'a>) -> Part<'a>
+    ensures { item_of result ≡ spec.named mention.entry }
 {
-    let number = fs.0;
-    push_line_start(number, line, page)?;
-    push_code(name, page)?;
-    push_line_end(line, page)?;
-    Ok(())
-}
-
-/// Begins the link.
-fn push_line_start(fs: u32, line: u32, page: &mut String) -> Result<(), AllocError>
-    ensures { OnOk result (string_bytes page.new ≡ string_bytes page.old ++ spec.line_start fs line) }
-{
-    write!(page, "<a href=\"#f{fs}-{line}\">")
-}
-
-/// Ends the link.
-fn push_line_end(line: u32, page: &mut String) -> Result<(), AllocError>
-    ensures { OnOk result (string_bytes page.new ≡ string_bytes page.old ++ spec.line_end line) }
-{
-    write!(page, " line&nbsp;{line}</a>")
-}
-
-/// Adds a netgroup.
-fn push_group(name: &str, page: &mut String) -> Result<(), AllocError>
-    ensures { OnOk result (string_bytes page.new ≡ string_bytes page.old ++ spec.group name.now) }
-{
-    page.push_str("group ")?;
-    push_code(name, page)?;
-    Ok(())
+    match mention {
+        Mention::System(fs, name) => Part::System(fs, name),
+        Mention::Line(fs, name, line) => Part::SystemLine(fs, name, line),
+        Mention::Host(name) => Part::Code(name),
+        Mention::Group(name) => Part::Code(name),
+    }
 }

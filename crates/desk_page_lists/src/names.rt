@@ -1,15 +1,17 @@
 //! Netgroups, and the names of hosts that lines write.
 
-ghost use Rattle.std.specs.Prelude.{◌≡◌, ◌++◌, OnOk};
+ghost use Rattle.std.specs.Prelude.{◌≡◌, ◌++◌, OnOk, map};
 ghost use Rattle.std.specs.String.{string_bytes};
+ghost use Rattle.page_html.specs.Parts.{item_of};
+ghost use Rattle.page_html.specs.Tables.{row_html, rows_html};
 ghost use Rattle.desk_page_lists.specs.Names as spec;
 
-use crate::mentions::{Mention, push_some};
-use crate::tables::{
-    Table, push_long_end, push_long_start, push_number_cell, push_row_end, push_row_head,
-    push_table_end, push_table_start, push_words_cell,
+use crate::mentions::{Mention, some_or};
+use crate::tables::{five_cells, number_of, push_long_end, push_long_start, seven_cells};
+use desk_page::Span;
+use page_html::{
+    Column, Element, Frame, Part, Tag, Title, push_element, push_row, push_table_start, push_tag,
 };
-use desk_page::{Span, push_count_cell, push_ranges, push_zero};
 use std::alloc::{AllocError, Global};
 
 /// More rows than these are folded.
@@ -20,6 +22,34 @@ const MOST_MEMBERS: usize = 8;
 
 /// How many lines that write a name a cell names.
 const MOST_USES: usize = 6;
+
+/// The table of netgroups.
+const NETGROUPS: Frame = Frame {
+    class: "n",
+    is_titled: true,
+    columns: &[
+        Column::Name("Name"),
+        Column::Count("Line"),
+        Column::Plain("Hosts and groups in it"),
+        Column::Count("Host names"),
+        Column::Count("Addresses"),
+        Column::Plain("Stands for"),
+        Column::Plain("Written by"),
+    ],
+};
+
+/// The table of names of hosts.
+const HOSTS: Frame = Frame {
+    class: "n",
+    is_titled: true,
+    columns: &[
+        Column::Name("Name"),
+        Column::Plain("It is"),
+        Column::Count("Addresses"),
+        Column::Plain("Stands for"),
+        Column::Plain("Written by"),
+    ],
+};
 
 /// A netgroup: the number of its line, its members as written, how many names of hosts are in it, the addresses that it stands for, how
 /// many they are, and the lines that write it.
@@ -64,10 +94,26 @@ pub fn push_netgroups(
     ensures { OnOk result (string_bytes page.new ≡ string_bytes page.old ++ spec.netgroups rows.now) }
 {
     if rows.is_empty() {
-        page.push_str("<p>The table <code>netgroup</code> has none.</p>\n")
+        push_no_netgroup(alloc, page)
     } else {
         push_some_netgroups(alloc, rows, page)
     }
+}
+
+/// Adds that there is no netgroup.
+fn push_no_netgroup(alloc: Global, page: &mut String) -> Result<(), AllocError>
+    ensures { OnOk result (string_bytes page.new ≡ string_bytes page.old ++ spec.no_netgroup) }
+{
+    push_element(
+        alloc,
+        Element::Paragraph,
+        &[
+            Part::Words("The table "),
+            Part::Word("netgroup"),
+            Part::Words(" has none."),
+        ],
+        page,
+    )
 }
 
 /// Adds netgroups, folded if they are many.
@@ -78,29 +124,23 @@ fn push_some_netgroups(
 ) -> Result<(), AllocError>
     ensures { OnOk result (string_bytes page.new ≡ string_bytes page.old ++ spec.some_netgroups rows.now) }
 {
-    push_long_start(
-        alloc,
-        OPEN,
-        rows.len() as u64,
-        "netgroup",
-        "netgroups",
-        page,
-    )?;
-    push_table_start(Table::Netgroups, page)?;
+    let count = rows.len() as u64;
+    push_long_start(alloc, OPEN, count, "netgroup", "netgroups", page)?;
+    push_table_start(alloc, &NETGROUPS, &[Title::Said("Netgroups")], page)?;
     push_netgroup_rows(alloc, rows, page)?;
-    push_table_end(page)?;
-    push_long_end(OPEN, rows.len() as u64, page)?;
+    push_tag(Tag::TableEnd, page)?;
+    push_long_end(OPEN, count, page)?;
     Ok(())
 }
 
 /// Adds the rows of netgroups.
-#[tactic(auto, unfolding(crate::specs::Names::netgroup_rows))]
+#[tactic(auto, unfolding(page_html::specs::Tables::rows_html))]
 fn push_netgroup_rows(
     alloc: Global,
     rows: &[NetgroupRow<'_>],
     page: &mut String,
 ) -> Result<(), AllocError>
-    ensures { OnOk result (string_bytes page.new ≡ string_bytes page.old ++ spec.netgroup_rows rows.now) }
+    ensures { OnOk result (string_bytes page.new ≡ string_bytes page.old ++ rows_html spec.netgroup_frame (map spec.netgroup rows.now)) }
 {
     for row in rows {
         push_netgroup(alloc, row, page)?;
@@ -110,108 +150,35 @@ fn push_netgroup_rows(
 
 /// Adds a netgroup.
 fn push_netgroup(alloc: Global, row: &NetgroupRow<'_>, page: &mut String) -> Result<(), AllocError>
-    ensures { OnOk result (string_bytes page.new ≡ string_bytes page.old ++ spec.netgroup row.now) }
+    ensures { OnOk result (string_bytes page.new ≡ string_bytes page.old ++ row_html spec.netgroup_frame (spec.netgroup row.now)) }
 {
-    push_netgroup_start(alloc, row, page)?;
-    push_count_cell(alloc, row.hosts, page)?;
-    push_count_cell(alloc, row.addresses, page)?;
-    push_name_end(alloc, row.ranges, row.uses, page)?;
+    let members = some_or(alloc, row.members, MOST_MEMBERS, Part::Words("-"))?;
+    let uses = some_or(alloc, row.uses, MOST_USES, Part::Zero("no line"))?;
+    push_row(
+        alloc,
+        &NETGROUPS,
+        &seven_cells(
+            &[Part::Code(row.name)],
+            &[number_of(row.line)],
+            members.as_slice(),
+            &[Part::Number(row.hosts)],
+            &[Part::Number(row.addresses)],
+            &[stands_for(row.ranges)],
+            uses.as_slice(),
+        ),
+        page,
+    )?;
     Ok(())
 }
 
-/// Begins the row of a netgroup, with its members.
-fn push_netgroup_start(
-    alloc: Global,
-    row: &NetgroupRow<'_>,
-    page: &mut String,
-) -> Result<(), AllocError>
-    ensures { OnOk result (string_bytes page.new ≡ string_bytes page.old ++ spec.netgroup_start row.now) }
-{
-    push_row_head(row.name, page)?;
-    push_number_cell(alloc, row.line, page)?;
-    push_members_cell(alloc, row.members, page)?;
-    Ok(())
-}
-
-/// Adds a cell with the members of a netgroup.
-fn push_members_cell(
-    alloc: Global,
-    members: &[Mention<'_>],
-    page: &mut String,
-) -> Result<(), AllocError>
-    ensures { OnOk result (string_bytes page.new ≡ string_bytes page.old ++ spec.members_cell members.now) }
-{
-    page.push_str("<td>")?;
-    push_members(alloc, members, page)?;
-    page.push_str("</td>")?;
-    Ok(())
-}
-
-/// Adds the members of a netgroup.
-fn push_members(alloc: Global, members: &[Mention<'_>], page: &mut String) -> Result<(), AllocError>
-    ensures { OnOk result (string_bytes page.new ≡ string_bytes page.old ++ spec.members_words members.now) }
-{
-    if members.is_empty() {
-        page.push_str("-")
-    } else {
-        push_some(alloc, members, MOST_MEMBERS, page)
-    }
-}
-
-/// Adds the cells of what a name stands for, and of the lines that write it, and ends the row.
-fn push_name_end(
-    alloc: Global,
-    ranges: &[Span],
-    uses: &[Mention<'_>],
-    page: &mut String,
-) -> Result<(), AllocError>
-    ensures { OnOk result (string_bytes page.new ≡ string_bytes page.old ++ spec.name_end ranges.now uses.now) }
-{
-    push_ranges_cell(alloc, ranges, page)?;
-    push_uses_cell(alloc, uses, page)?;
-    push_row_end(page)?;
-    Ok(())
-}
-
-/// Adds a cell with the addresses that a name stands for.
-fn push_ranges_cell(alloc: Global, ranges: &[Span], page: &mut String) -> Result<(), AllocError>
-    ensures { OnOk result (string_bytes page.new ≡ string_bytes page.old ++ spec.ranges_cell ranges.now) }
-{
-    page.push_str("<td>")?;
-    push_stands_for(alloc, ranges, page)?;
-    page.push_str("</td>")?;
-    Ok(())
-}
-
-/// Adds the addresses that a name stands for.
-fn push_stands_for(alloc: Global, ranges: &[Span], page: &mut String) -> Result<(), AllocError>
-    ensures { OnOk result (string_bytes page.new ≡ string_bytes page.old ++ spec.stands_for ranges.now) }
+/// Returns the addresses that a name stands for.
+fn stands_for<'a>(ranges: &'a [Span]) -> Part<'a>
+    ensures { item_of result ≡ spec.stands_for ranges.now }
 {
     if ranges.is_empty() {
-        page.push_str("<b>nobody</b>")
+        Part::Strong("nobody")
     } else {
-        push_ranges(alloc, ranges, page)
-    }
-}
-
-/// Adds a cell with the lines that write a name.
-fn push_uses_cell(alloc: Global, uses: &[Mention<'_>], page: &mut String) -> Result<(), AllocError>
-    ensures { OnOk result (string_bytes page.new ≡ string_bytes page.old ++ spec.uses_cell uses.now) }
-{
-    page.push_str("<td>")?;
-    push_uses(alloc, uses, page)?;
-    page.push_str("</td>")?;
-    Ok(())
-}
-
-/// Adds the lines that write a name.
-fn push_uses(alloc: Global, uses: &[Mention<'_>], page: &mut String) -> Result<(), AllocError>
-    ensures { OnOk result (string_bytes page.new ≡ string_bytes page.old ++ spec.uses_words uses.now) }
-{
-    if uses.is_empty() {
-        push_zero("no line", page)
-    } else {
-        push_some(alloc, uses, MOST_USES, page)
+        Part::Ranges(ranges)
     }
 }
 
@@ -230,18 +197,24 @@ pub fn push_hosts(alloc: Global, rows: &[HostRow<'_>], page: &mut String) -> Res
 fn push_some_hosts(alloc: Global, rows: &[HostRow<'_>], page: &mut String) -> Result<(), AllocError>
     ensures { OnOk result (string_bytes page.new ≡ string_bytes page.old ++ spec.some_hosts rows.now) }
 {
-    push_long_start(alloc, OPEN, rows.len() as u64, "name", "names", page)?;
-    push_table_start(Table::Hosts, page)?;
+    let count = rows.len() as u64;
+    push_long_start(alloc, OPEN, count, "name", "names", page)?;
+    push_table_start(
+        alloc,
+        &HOSTS,
+        &[Title::Said("Names of hosts that lines write")],
+        page,
+    )?;
     push_host_rows(alloc, rows, page)?;
-    push_table_end(page)?;
-    push_long_end(OPEN, rows.len() as u64, page)?;
+    push_tag(Tag::TableEnd, page)?;
+    push_long_end(OPEN, count, page)?;
     Ok(())
 }
 
 /// Adds the rows of names of hosts.
-#[tactic(auto, unfolding(crate::specs::Names::host_rows))]
+#[tactic(auto, unfolding(page_html::specs::Tables::rows_html))]
 fn push_host_rows(alloc: Global, rows: &[HostRow<'_>], page: &mut String) -> Result<(), AllocError>
-    ensures { OnOk result (string_bytes page.new ≡ string_bytes page.old ++ spec.host_rows rows.now) }
+    ensures { OnOk result (string_bytes page.new ≡ string_bytes page.old ++ rows_html spec.host_frame (map spec.host rows.now)) }
 {
     for row in rows {
         push_host(alloc, row, page)?;
@@ -251,29 +224,31 @@ fn push_host_rows(alloc: Global, rows: &[HostRow<'_>], page: &mut String) -> Res
 
 /// Adds the name of a host.
 fn push_host(alloc: Global, row: &HostRow<'_>, page: &mut String) -> Result<(), AllocError>
-    ensures { OnOk result (string_bytes page.new ≡ string_bytes page.old ++ spec.host row.now) }
+    ensures { OnOk result (string_bytes page.new ≡ string_bytes page.old ++ row_html spec.host_frame (spec.host row.now)) }
 {
-    push_row_head(row.name, page)?;
-    push_kind_cell(row.kind, page)?;
-    push_count_cell(alloc, row.addresses, page)?;
-    push_name_end(alloc, row.ranges, row.uses, page)?;
+    let uses = some_or(alloc, row.uses, MOST_USES, Part::Zero("no line"))?;
+    push_row(
+        alloc,
+        &HOSTS,
+        &five_cells(
+            &[Part::Code(row.name)],
+            &[kind_of(row.kind)],
+            &[Part::Number(row.addresses)],
+            &[stands_for(row.ranges)],
+            uses.as_slice(),
+        ),
+        page,
+    )?;
     Ok(())
 }
 
-/// Adds a cell with what the name of a host is.
-fn push_kind_cell(kind: HostKind, page: &mut String) -> Result<(), AllocError>
-    ensures { OnOk result (string_bytes page.new ≡ string_bytes page.old ++ spec.kind_cell kind) }
-{
-    push_words_cell(kind_words(kind), page)
-}
-
 /// Returns what the name of a host is.
-fn kind_words(kind: HostKind) -> &'static str
-    ensures { result.now ≡ spec.kind_words kind }
+fn kind_of<'a>(kind: HostKind) -> Part<'a>
+    ensures { item_of result ≡ spec.kind kind }
 {
     match kind {
-        HostKind::Known => "of the table hosts",
-        HostKind::Ipv6 => "of IPv6: nobody",
-        HostKind::Unknown => "no IPv4 address in the table hosts: nobody",
+        HostKind::Known => Part::Words("of the table hosts"),
+        HostKind::Ipv6 => Part::Words("of IPv6: nobody"),
+        HostKind::Unknown => Part::Words("no IPv4 address in the table hosts: nobody"),
     }
 }

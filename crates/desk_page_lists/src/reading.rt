@@ -4,6 +4,7 @@ ghost use Rattle.std.specs.Prelude.{◌≡◌, ◌++◌, OnOk};
 ghost use Rattle.std.specs.String.{string_bytes};
 ghost use Rattle.desk_page_lists.specs.Reading as spec;
 
+use page_html::push_fixed;
 use std::alloc::AllocError;
 
 /// The words of the page, how its maps are read, by which rules a line stands out, and what the page does not tell.
@@ -59,5 +60,5 @@ const HOW_TO_READ: &str = r##"<section id="read">
 pub fn push_how_to_read(page: &mut String) -> Result<(), AllocError>
     ensures { OnOk result (string_bytes page.new ≡ string_bytes page.old ++ spec.how_to_read) }
 {
-    page.push_str(HOW_TO_READ)
+    push_fixed(HOW_TO_READ, page)
 }

@@ -1,20 +1,34 @@
 //! What the desk warns of.
 
-ghost use Rattle.std.specs.Prelude.{◌≡◌, ◌++◌, OnOk};
+ghost use Rattle.std.specs.Prelude.{◌≡◌, ◌++◌, OnOk, map};
 ghost use Rattle.std.specs.String.{string_bytes};
+ghost use Rattle.page_html.specs.Parts.{item_of};
+ghost use Rattle.page_html.specs.Tables.{row_html, rows_html};
 ghost use Rattle.desk_page_lists.specs.Warnings as spec;
 
-use crate::tables::{
-    Table, push_code_cell, push_long_end, push_long_start, push_row_end, push_row_head,
-    push_table_end, push_table_start, push_words_cell,
-};
-use desk_page::push_line_link;
+use crate::tables::{push_long_end, push_long_start};
 use desk_policy::WarningKind;
 use desk_tables::FsId;
+use page_html::{
+    Column, Element, Frame, Part, Tag, Title, push_element, push_row, push_table_start, push_tag,
+};
 use std::alloc::{AllocError, Global};
 
 /// More rows than these are folded.
 const OPEN: u64 = 24;
+
+/// The table.
+const WARNINGS: Frame = Frame {
+    class: "",
+    is_titled: true,
+    columns: &[
+        Column::Name("File"),
+        Column::Plain("Line"),
+        Column::Plain("Word"),
+        Column::Plain("Name"),
+        Column::Plain("What it means"),
+    ],
+};
 
 /// A word of a line that the desk warns of.
 #[derive(Clone, Copy)]
@@ -36,7 +50,12 @@ pub fn push_warnings(
     ensures { OnOk result (string_bytes page.new ≡ string_bytes page.old ++ spec.warnings rows.now) }
 {
     if rows.is_empty() {
-        page.push_str("<p>No word has a warning.</p>\n")
+        push_element(
+            alloc,
+            Element::Paragraph,
+            &[Part::Words("No word has a warning.")],
+            page,
+        )
     } else {
         push_some_warnings(alloc, rows, page)
     }
@@ -50,64 +69,66 @@ fn push_some_warnings(
 ) -> Result<(), AllocError>
     ensures { OnOk result (string_bytes page.new ≡ string_bytes page.old ++ spec.some_warnings rows.now) }
 {
-    push_long_start(alloc, OPEN, rows.len() as u64, "warning", "warnings", page)?;
-    push_table_start(Table::Warnings, page)?;
-    push_rows(rows, page)?;
-    push_table_end(page)?;
-    push_long_end(OPEN, rows.len() as u64, page)?;
+    let count = rows.len() as u64;
+    push_long_start(alloc, OPEN, count, "warning", "warnings", page)?;
+    push_table_start(
+        alloc,
+        &WARNINGS,
+        &[Title::Said("Warnings about words")],
+        page,
+    )?;
+    push_rows(alloc, rows, page)?;
+    push_tag(Tag::TableEnd, page)?;
+    push_long_end(OPEN, count, page)?;
     Ok(())
 }
 
 /// Adds rows.
-#[tactic(auto, unfolding(crate::specs::Warnings::rows))]
-fn push_rows(rows: &[WarningRow<'_>], page: &mut String) -> Result<(), AllocError>
-    ensures { OnOk result (string_bytes page.new ≡ string_bytes page.old ++ spec.rows rows.now) }
+#[tactic(auto, unfolding(page_html::specs::Tables::rows_html))]
+fn push_rows(alloc: Global, rows: &[WarningRow<'_>], page: &mut String) -> Result<(), AllocError>
+    ensures { OnOk result (string_bytes page.new ≡ string_bytes page.old ++ rows_html spec.frame (map spec.cells rows.now)) }
 {
     for row in rows {
-        push_row(row, page)?;
+        push_warning(alloc, row, page)?;
     }
     Ok(())
 }
 
 /// Adds a row.
-fn push_row(row: &WarningRow<'_>, page: &mut String) -> Result<(), AllocError>
-    ensures { OnOk result (string_bytes page.new ≡ string_bytes page.old ++ spec.row row.now) }
+fn push_warning(alloc: Global, row: &WarningRow<'_>, page: &mut String) -> Result<(), AllocError>
+    ensures { OnOk result (string_bytes page.new ≡ string_bytes page.old ++ row_html spec.frame (spec.cells row.now)) }
 {
-    push_row_head(row.file, page)?;
-    push_line_cell(row.fs, row.line, page)?;
-    push_code_cell(row.word, page)?;
-    push_kind_cells(row.kind, page)?;
-    push_row_end(page)?;
-    Ok(())
+    let line = line_of(row);
+    let cells: [&[Part<'_>]; 5] = [
+        &[Part::Code(row.file)],
+        &line,
+        &[Part::Code(row.word)],
+        &[name_of(row.kind)],
+        &[meaning_of(row.kind)],
+    ];
+    push_row(alloc, &WARNINGS, &cells, page)
 }
 
-/// Adds a cell with the line.
-fn push_line_cell(fs: Option<FsId>, line: u32, page: &mut String) -> Result<(), AllocError>
-    ensures { OnOk result (string_bytes page.new ≡ string_bytes page.old ++ spec.line_cell fs line) }
+/// Returns the line, with a link if it is one of a file system.
+fn line_of<'a>(row: &WarningRow<'a>) -> [Part<'a>; 2]
+    ensures { map item_of result ≡ spec.line row.now.fs row.now.line }
 {
-    page.push_str("<td>")?;
-    push_line(fs, line, page)?;
-    page.push_str("</td>")?;
-    Ok(())
-}
-
-/// Adds the line, with a link if it is one of a file system.
-fn push_line(fs: Option<FsId>, line: u32, page: &mut String) -> Result<(), AllocError>
-    ensures { OnOk result (string_bytes page.new ≡ string_bytes page.old ++ spec.line_words fs line) }
-{
-    match fs {
-        None => write!(page, "line {line}"),
-        Some(fs) => push_line_link(fs, line, page),
+    match row.fs {
+        None => [Part::Words("line "), Part::Digits(row.line)],
+        Some(fs) => [Part::LineLink(fs, row.line), Part::Nothing],
     }
 }
 
-/// Adds cells with the name of a kind, and its sentence.
-fn push_kind_cells(kind: WarningKind, page: &mut String) -> Result<(), AllocError>
-    ensures { OnOk result (string_bytes page.new ≡ string_bytes page.old ++ spec.kind_cells kind) }
+/// Returns the name of a kind.
+fn name_of<'a>(kind: WarningKind) -> Part<'a>
+    ensures { item_of result ≡ spec.name kind }
 {
-    let name = kind.name();
-    let sentence = kind.sentence();
-    push_words_cell(name, page)?;
-    push_words_cell(sentence, page)?;
-    Ok(())
+    Part::Words(kind.name())
+}
+
+/// Returns what is odd about a word.
+fn meaning_of<'a>(kind: WarningKind) -> Part<'a>
+    ensures { item_of result ≡ spec.meaning kind }
+{
+    Part::Words(kind.sentence())
 }

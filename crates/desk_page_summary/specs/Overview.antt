@@ -10,7 +10,6 @@ use Rattle.desk_page_lists.specs.Tables.{row_end, table_end, table_start}
 use Rattle.desk_page_words.specs.Badges.{badge}
 use Rattle.desk_page_summary.specs.Addresses.{part_cell}
 use Rattle.desk_report.specs.declared.class.Class.{Class}
-use Rattle.desk_report.specs.declared.class.Class.TheVariants.{Denied, ReadOnly, ReadWrite, RootKept}
 use Rattle.desk_page_summary.specs.declared.overview.Reach.{Reach}
 use Rattle.desk_page_summary.specs.declared.overview.SystemRow.{SystemRow}
 use Rattle.desk_page_summary.specs.declared.overview.TheConstants.{LEGEND}

@@ -121,7 +121,7 @@ fn push_open_and_folded(
 fn push_open(alloc: Global, rows: &[FindingRow<'_>], page: &mut String) -> Result<(), AllocError>
     ensures { OnOk result (string_bytes page.new ≡ string_bytes page.old ++ spec.open_rows rows.now) }
 {
-    push_table_start(Table::Findings, page)?;
+    push_table_start(alloc, Table::Findings, page)?;
     push_rows(alloc, rows, page)?;
     push_table_end(page)?;
     Ok(())
@@ -132,7 +132,7 @@ fn push_folded(alloc: Global, rows: &[FindingRow<'_>], page: &mut String) -> Res
     ensures { OnOk result (string_bytes page.new ≡ string_bytes page.old ++ spec.folded_rows rows.now) }
 {
     push_fold_start(alloc, rows.len() as u64, "more line", "more lines", page)?;
-    push_table_start(Table::MoreFindings, page)?;
+    push_table_start(alloc, Table::MoreFindings, page)?;
     push_rows(alloc, rows, page)?;
     push_table_end(page)?;
     push_fold_end(page)?;

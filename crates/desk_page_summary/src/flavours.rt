@@ -31,7 +31,7 @@ pub fn push_flavours_table(
 ) -> Result<(), AllocError>
     ensures { OnOk result (string_bytes page.new ≡ string_bytes page.old ++ spec.flavours_table rows.now) }
 {
-    push_table_start(Table::Flavours, page)?;
+    push_table_start(alloc, Table::Flavours, page)?;
     push_rows(alloc, rows, page)?;
     push_table_end(page)?;
     Ok(())

@@ -63,7 +63,7 @@ pub fn push_overview(
     ensures { OnOk result (string_bytes page.new ≡ string_bytes page.old ++ spec.overview together.now rows.now) }
 {
     push_legend(page)?;
-    push_table_start(Table::Overview, page)?;
+    push_table_start(alloc, Table::Overview, page)?;
     push_any(alloc, together, page)?;
     push_rows(alloc, rows, page)?;
     push_table_end(page)?;

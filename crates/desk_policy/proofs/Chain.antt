@@ -1,13 +1,10 @@
 -- Files that are read one after the other.
-use Rattle.std.proofs.Common.{◌≡◌, IfOk, List, ap, subst, sym, ℕ}
+use Rattle.std.proofs.Common.{◌≡◌, IfOk, ap, subst, sym}
 use Rattle.std.specs.Prelude.{Result, Ok, Err}
-use Rattle.desk_text.specs.Reading.{Reads, ReadsAs}
+use Rattle.desk_text.specs.Reading.{ReadsAs}
 use Rattle.desk_text.specs.declared.reading.ReadError.{ReadError}
 use Rattle.desk_text.specs.declared.reading.ReadError.TheVariants.{Fault, Memory}
-use Rattle.desk_policy.specs.Parsing.{ExportsFile, then_read}
-use Rattle.desk_policy.specs.PrivateParsing.{PushesFiles}
-use Rattle.desk_policy.specs.declared.row.Row.{Row}
-use Rattle.desk_policy.specs.declared.warning.Warning.{Warning}
+use Rattle.desk_policy.specs.Parsing.{then_read}
 use Rattle.desk_policy.specs.declared.site_fault.SiteFault.{SiteFault}
 
 -- a file that is refused ends the reading
@@ -20,12 +17,6 @@ refused view shown Memory read next told = tt
 pub goes_on : {T X Y : Type 0} (shown : T → Y) (read : Result X SiteFault) (next : X → Result Y SiteFault) (value : X) (result : Result T (ReadError SiteFault))
     → read ≡ Ok value → ReadsAs shown result (next value) → ReadsAs shown result (then_read read next)
 goes_on shown read next value result is told = subst (λ r. ReadsAs shown result (then_read r next)) (sym is) told
-
--- the files of all file systems, if one of them is refused
-pub files_refused : (error : ReadError SiteFault) (read : Result (List ExportsFile) SiteFault) (count : ℕ) (rows rows' : List (List Row)) (warnings warnings' : List Warning)
-    → PushesFiles (Err error) read count rows rows' warnings warnings' → Reads {X = List ExportsFile} (Err error) read
-files_refused (Fault fault) read count rows rows' warnings warnings' told = told
-files_refused Memory read count rows rows' warnings warnings' told = tt
 
 -- what holds of a value holds of it where it is kept
 pub if_kept : {X E F : Type 0} (P : X → Type 0) (answer : Result X E) (result : Result X F) → IfOk result (λ value. answer ≡ Ok value) → IfOk answer P → IfOk result P

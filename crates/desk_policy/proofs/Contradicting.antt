@@ -1,10 +1,9 @@
 -- The least contradiction of a list of lines in ascending order.
-use Rattle.std.proofs.Common.{◌≡◌, ◌≢◌, ℕ, ◌+◌, ◌<◌, ◌≤◌, List, [], ◌∷◌, ◌++◌, length, get_or, take, None, sym, ◌∙◌, ap, subst, refl, inl, inr, ◌⊎◌, arith}
+use Rattle.std.proofs.Common.{◌≡◌, ◌≢◌, ℕ, ◌+◌, ◌<◌, ◌≤◌, List, [], length, get_or, take, None, sym, ◌∙◌, ap, subst, refl, inl, inr, ◌⊎◌, arith}
 use Rattle.std.specs.List.{Contains, All}
 use Rattle.std.proofs.lemmas.Bool.{cases_order, cases_lt}
-use Rattle.std.proofs.lemmas.List.{get_or_default, get_or-take, take_more}
+use Rattle.std.proofs.lemmas.List.{get_or_default, get_or-take}
 use Rattle.std.proofs.Common.{length-take}
-use Rattle.std.proofs.lemmas.List.Elements.{Contains-push_cases}
 use Rattle.desk_policy.specs.declared.row.Row.{Row}
 use Rattle.desk_policy.specs.Policy.{AreAscending}
 use Rattle.desk_policy.specs.Contradiction.{MatchAlike, Contradicts, IsLeastIn, IsNotAfter}
@@ -49,17 +48,6 @@ module _ (rows : List Row) (ascending : AreAscending rows) where
   same_at i x y l p q = sym p ∙ get_or_default rows i x y l ∙ q
 
   -- ---- a line against the earlier ones
-  module _ (row : Row) where
-    -- one more line that does not conflict
-    pub none_more : (i : ℕ) (other : Row) → i < length rows → other ≡ get_or rows i other
-        → IsLeastConflict (take i rows) row None → ((a : ℕ) → Conflict row other a → ⊥) → IsLeastConflict (take (i + 1) rows) row None
-    none_more i other l e none here o a there conflict =
-        let c : Contains (take i rows ++ other ∷ []) o =
-        subst (λ ys. Contains ys o) (take_more rows i other l ∙ ap (λ x. take i rows ++ x ∷ []) (sym e)) there in
-        elim (Contains-push_cases (take i rows) other o c) [
-          | inl before ↦ none o a before conflict
-          | inr is ↦ here a (subst (λ x. Conflict row x a) (sym is) conflict)
-        ]
 
   -- ---- each line against those before it
   pub consistent_more : (i : ℕ) (row : Row) → i < length rows → row ≡ get_or rows i row

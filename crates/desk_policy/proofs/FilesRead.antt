@@ -52,23 +52,9 @@ joined : (files : List ExportsFile) (file : ExportsFile) (rest : Result (List Ex
 joined files file (Ok more) = ap Ok (sym (append_assoc files (file ∷ []) more))
 joined files file (Err fault) = refl
 
-nothing_more : (rest : Result (List ExportsFile) SiteFault) → rest ≡ then_read rest (and_then_more [])
-nothing_more (Ok more) = refl
-nothing_more (Err fault) = refl
-
 module _ (texts : SiteTexts) (table : List Mount) (site_tables : SiteTables) where
   abbrev one : ℕ → Mount → Result ExportsFile SiteFault
   one place mount = read_exports texts table site_tables place mount.path
-
-  pub none_read : (rows : List (List Row)) (warnings : List Warning) → FilesRead texts table site_tables 0 rows rows warnings warnings
-  none_read rows warnings = record {
-    files = [];
-    is = nothing_more (read_files texts table site_tables 0 table);
-    each = refl;
-    lines = sym (append-nil rows);
-    warned = sym (append-nil warnings);
-    ascending = λ i d below. absurd (omega arith);
-  }
 
   module _ (i : ℕ) (mount : Mount) (below : i < length table) (at : mount ≡ get_or table i mount) where
     dropped : drop i table ≡ mount ∷ drop (i + 1) table
@@ -89,24 +75,6 @@ module _ (texts : SiteTexts) (table : List Mount) (site_tables : SiteTables) whe
           ∙ ap (λ ws. warnings ++ ws) (ap (λ ws. flat_map (λ (f : ExportsFile). f.warnings) so_far.files ++ ws) (sym (append-nil adds.file.warnings)) ∙ sym (flat_map-append (λ (f : ExportsFile). f.warnings) so_far.files (adds.file ∷ [])));
       ascending = All-push (λ (f : ExportsFile). AreAscending f.rows) so_far.files adds.file so_far.ascending adds.ascending;
     }
-
-    pub one_faulty : (rows rows' : List (List Row)) (warnings warnings' : List Warning) (fault : SiteFault) → FilesRead texts table site_tables i rows rows' warnings warnings'
-        → one i mount ≡ Err fault → read_files texts table site_tables 0 table ≡ Err fault
-    one_faulty rows rows' warnings warnings' fault so_far e =
-        so_far.is
-        ∙ ap (λ mounts. then_read (read_files texts table site_tables i mounts) (and_then_more so_far.files)) dropped
-        ∙ ap (λ file. then_read (then_read file (λ f. then_read (read_files texts table site_tables (i + 1) (drop (i + 1) table)) (λ more. Ok (f ∷ more)))) (and_then_more so_far.files)) e
-
-  pub all_read : (i : ℕ) → i ≡ length table → drop i table ≡ [] → (rows rows' : List (List Row)) (warnings warnings' : List Warning) → FilesRead texts table site_tables i rows rows' warnings warnings'
-      → AddsFiles (read_files texts table site_tables 0 table) (length table) rows rows' warnings warnings'
-  all_read i end none rows rows' warnings warnings' so_far = record {
-    files = so_far.files;
-    is = so_far.is ∙ ap (λ mounts. then_read (read_files texts table site_tables i mounts) (and_then_more so_far.files)) none ∙ ap Ok (append-nil so_far.files);
-    each = so_far.each ∙ end;
-    lines = so_far.lines;
-    warned = so_far.warned;
-    ascending = so_far.ascending;
-  }
 
 all_mapped : (files : List ExportsFile) → All (λ (f : ExportsFile). AreAscending f.rows) files → All AreAscending (map (λ (f : ExportsFile). f.rows) files)
 all_mapped files up i d below =

@@ -7,7 +7,7 @@ use Rattle.std.proofs.lemmas.List.{append-nil, map-append, take_more}
 use Rattle.std.proofs.lemmas.List.Elements.{filter-append}
 use Rattle.desk_tables.specs.declared.custodians.Custodian.{Custodian}
 use Rattle.desk_tables.specs.declared.filesystems.Mount.{Mount}
-use Rattle.desk_policy.specs.Unlisted.{has_unlisted, least, unlisted_line}
+use Rattle.desk_policy.specs.UnlistedCustodians.{has_unlisted, least, unlisted_line}
 
 abbrev pub lesser : ℕ → Option ℕ → ℕ
 lesser n other = option_map_or (min n) other n

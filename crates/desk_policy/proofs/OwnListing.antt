@@ -6,7 +6,7 @@ use Rattle.std.proofs.lemmas.Bool.{and_from, and_parts, eq-eqb, or_cases, or_lef
 use Rattle.desk_text.specs.Path.{same_path}
 use Rattle.desk_tables.specs.FileSystems.{fs_of}
 use Rattle.desk_tables.specs.declared.filesystems.Mount.{Mount}
-use Rattle.desk_policy.specs.Listings.{in_order, is_shown, listed, listing_of, ListingsShowTheirOwn, ListingsShowWhatIsGranted, shown_at, shown_by, shown_of, shows, WriteTheirOwn, written}
+use Rattle.desk_policy.specs.Listings.{in_order, is_shown, listed, listing_of, ListingsShowTheirOwn, ListingsShowWhatIsGranted, shown_of_mount, shown_of_selected, shown_of_system, shows, WriteTheirOwn, written}
 use Rattle.desk_policy.specs.Policy.{Content, rows_of}
 use Rattle.desk_policy.specs.Verdict.{is_directory_among, lists}
 use Rattle.desk_policy.specs.Weights.{selected}
@@ -51,7 +51,7 @@ module _ (content : Content) where
   one_more (Some shown) more own others = (own, others)
 
   module _ (own : WriteTheirOwn content) where
-    by_lines : (fs : ℕ) (chosen : List Row) → ShowsOwnIfAny (shown_by content fs chosen)
+    by_lines : (fs : ℕ) (chosen : List Row) → ShowsOwnIfAny (shown_of_selected content fs chosen)
     by_lines fs [] = tt
     by_lines fs (first ∷ others) =
         let all : List Path = written (rows_of content fs) in
@@ -60,14 +60,14 @@ module _ (content : Content) where
         λ dir. in_order_has dir (listed content fs (first ∷ others)) ∙ among_filter passes dir all in
         each_own fs (in_order (listed content fs (first ∷ others))) (λ dir e. among_own fs dir all (own fs) (and_parts (is_directory_among dir all) (passes dir) (sym (both dir) ∙ e)).0)
 
-    by_mount : (address : ℕ) (o : Option ℕ) → ShowsOwnIfAny (option_and_then (shown_of content address) o)
+    by_mount : (address : ℕ) (o : Option ℕ) → ShowsOwnIfAny (option_and_then (shown_of_system content address) o)
     by_mount address None = tt
     by_mount address (Some fs) = by_lines fs (selected (rows_of content fs) address)
 
-    of_mounts : (address : ℕ) (mounts : List Mount) → AllByRecursion ShowsOwn (filter_map (λ mount. shown_at content address mount.path) mounts)
+    of_mounts : (address : ℕ) (mounts : List Mount) → AllByRecursion ShowsOwn (filter_map (λ mount. shown_of_mount content address mount.path) mounts)
     of_mounts address [] = tt
     of_mounts address (mount ∷ mounts) =
-        one_more (shown_at content address mount.path) (filter_map (λ m. shown_at content address m.path) mounts) (by_mount address (fs_of content.table mount.path)) (of_mounts address mounts)
+        one_more (shown_of_mount content address mount.path) (filter_map (λ m. shown_of_mount content address m.path) mounts) (by_mount address (fs_of content.table mount.path)) (of_mounts address mounts)
 
   -- ---- a path is shown of its own file system if it is shown at all
 

@@ -10,7 +10,7 @@ use Rattle.desk_tables.specs.FileSystems.{fs_of}
 use Rattle.desk_tables.specs.declared.filesystems.FsId.{FsId}
 use Rattle.desk_tables.specs.declared.filesystems.Mount.{Mount}
 use Rattle.desk_exports.specs.declared.entry.Terms.{Terms}
-use Rattle.desk_policy.specs.Listings.{in_order, listed, shown_at, shown_by, shown_of, written}
+use Rattle.desk_policy.specs.Listings.{in_order, listed, shown_of_mount, shown_of_selected, shown_of_system, written}
 use Rattle.desk_policy.specs.Policy.{Content, rows_of}
 use Rattle.desk_policy.specs.PrivateListings.{IsShownBy, gathered, own_dirs}
 use Rattle.desk_policy.specs.PrivateWeights.{IsGreatest, has_weight}
@@ -118,7 +118,7 @@ shown_with : FsId → List Path → Bool → Terms → List ℕ → Shown
 shown_with fs dirs alldirs terms lines = record { fs = fs; dirs = dirs; alldirs = alldirs; terms = terms; lines = lines }
 
 pub shown_is : (content : Content) (fs : FsId) (chosen : List Row) → ((d : Path) → is_directory_among d (written chosen) ≡ true → is_directory_among d (written (rows_of content fs.0)) ≡ true)
-    → (shown : Option Shown) → IsShownBy content fs chosen shown → shown ≡ shown_by content fs.0 chosen
+    → (shown : Option Shown) → IsShownBy content fs chosen shown → shown ≡ shown_of_selected content fs.0 chosen
 unfolding shown_with
 shown_is content fs [] within None h = refl
 shown_is content fs [] within (Some shown) h = absurd h
@@ -134,24 +134,19 @@ shown_is content fs (first ∷ others) within (Some shown) h =
 
 -- what lines that were gathered by a test show
 pub shown_of_passing : (content : Content) (fs : FsId) (p : Row → Bool) (chosen : List Row) → chosen ≡ filter p (rows_of content fs.0)
-    → (shown : Option Shown) → IsShownBy content fs chosen shown → shown ≡ shown_by content fs.0 (filter p (rows_of content fs.0))
+    → (shown : Option Shown) → IsShownBy content fs chosen shown → shown ≡ shown_of_selected content fs.0 (filter p (rows_of content fs.0))
 shown_of_passing content fs p chosen are shown h =
     shown_is content fs chosen (λ d e. written_filter p d (rows_of content fs.0) (sym (ap (λ rs. is_directory_among d (written rs)) are) ∙ e)) shown h
-    ∙ ap (shown_by content fs.0) are
+    ∙ ap (shown_of_selected content fs.0) are
 
 module _ (content : Content) (fs : ℕ) (address : ℕ) (rows : List Row) (is : rows ≡ rows_of content fs) where
   -- the lines of the greatest weight are selected
-  pub shown_of_greatest : (weight : ℕ) → IsGreatest rows address (Some weight) → shown_by content fs (filter (has_weight address weight) (rows_of content fs)) ≡ shown_of content address fs
+  pub shown_of_greatest : (weight : ℕ) → IsGreatest rows address (Some weight) → shown_of_selected content fs (filter (has_weight address weight) (rows_of content fs)) ≡ shown_of_system content address fs
   shown_of_greatest weight greatest =
-      ap (shown_by content fs) (ap (filter (has_weight address weight)) (sym is) ∙ sym (selected-some rows address weight greatest) ∙ ap (λ rs. selected rs address) is)
+      ap (shown_of_selected content fs) (ap (filter (has_weight address weight)) (sym is) ∙ sym (selected-some rows address weight greatest) ∙ ap (λ rs. selected rs address) is)
 
-  pub shown_of_none : IsGreatest rows address None → None ≡ shown_of content address fs
-  shown_of_none none = ap (shown_by content fs) (sym (selected-none rows address none) ∙ ap (λ rs. selected rs address) is)
-
--- what is shown at a mount point, by the file system that was found
-number_found : (o : Option ℕ) (fs : FsId) → Some fs ≡ option_map (λ i. record { 0 = i }) o → o ≡ Some fs.0
-number_found None fs e = cc
-number_found (Some i) fs e = let s : fs ≡ record { 0 = i } = cc in sym (ap (λ (f : FsId). Some f.0) s)
+  pub shown_of_none : IsGreatest rows address None → None ≡ shown_of_system content address fs
+  shown_of_none none = ap (shown_of_selected content fs) (sym (selected-none rows address none) ∙ ap (λ rs. selected rs address) is)
 
 abbrev no_fs : Option FsId
 no_fs = None
@@ -161,8 +156,5 @@ none_found None e = cc
 none_found (Some i) e = cc
 
 module _ (content : Content) (address : ℕ) (mount : Path) (table : List Mount) (is : table ≡ content.table) where
-  pub shown_found : (fs : FsId) → Some fs ≡ option_map (λ i. record { 0 = i }) (fs_of table mount) → shown_of content address fs.0 ≡ shown_at content address mount
-  shown_found fs e = sym (ap (option_and_then (shown_of content address)) (ap (λ t. fs_of t mount) (sym is) ∙ number_found (fs_of table mount) fs e))
-
-  pub shown_nowhere : no_fs ≡ option_map (λ i. record { 0 = i }) (fs_of table mount) → None ≡ shown_at content address mount
-  shown_nowhere e = sym (ap (option_and_then (shown_of content address)) (ap (λ t. fs_of t mount) (sym is) ∙ none_found (fs_of table mount) e))
+  pub shown_nowhere : no_fs ≡ option_map (λ i. record { 0 = i }) (fs_of table mount) → None ≡ shown_of_mount content address mount
+  shown_nowhere e = sym (ap (option_and_then (shown_of_system content address)) (ap (λ t. fs_of t mount) (sym is) ∙ none_found (fs_of table mount) e))

@@ -7,14 +7,14 @@ pub mod Policy
 pub mod Warning
 pub mod Weights
 pub mod Verdict
-pub mod Acting
+pub mod ActingAs
 pub mod Prints
 pub mod PrivatePolicy
 pub mod PrivateWeights
 pub mod Contradiction
 pub mod Keys
 pub mod PrivateFirstLines
-pub mod Unlisted
+pub mod UnlistedCustodians
 pub mod SiteFile
 pub mod PerSite
 pub mod Site

@@ -34,9 +34,9 @@ listed content fs chosen = filter (λ path. list_any (lists content fs path) cho
 -- What is shown of a file system of which these lines are selected: the directories that any of its lines writes and a
 -- selected line lists; whether a selected line has -alldirs; the terms, which all selected lines of a policy in force
 -- have; and the selected lines. Nothing is shown if none is selected.
-abbrev pub shown_by : Content → ℕ → List Row → Option Shown
-shown_by content fs [] = None
-shown_by content fs (first ∷ others) = Some (record {
+abbrev pub shown_of_selected : Content → ℕ → List Row → Option Shown
+shown_of_selected content fs [] = None
+shown_of_selected content fs (first ∷ others) = Some (record {
   fs = record { 0 = fs };
   dirs = in_order (listed content fs (first ∷ others));
   alldirs = list_any (λ row. row.entry.alldirs) (first ∷ others);
@@ -45,16 +45,16 @@ shown_by content fs (first ∷ others) = Some (record {
 })
 
 -- what is shown of a file system to a client
-abbrev pub shown_of : Content → ℕ → ℕ → Option Shown
-shown_of content address fs = shown_by content fs (selected (rows_of content fs) address)
+abbrev pub shown_of_system : Content → ℕ → ℕ → Option Shown
+shown_of_system content address fs = shown_of_selected content fs (selected (rows_of content fs) address)
 
 -- what is shown of a mount point's file system to a client
-abbrev pub shown_at : Content → ℕ → List (List ℕ) → Option Shown
-shown_at content address mount = option_and_then (shown_of content address) (fs_of content.table mount)
+abbrev pub shown_of_mount : Content → ℕ → List (List ℕ) → Option Shown
+shown_of_mount content address mount = option_and_then (shown_of_system content address) (fs_of content.table mount)
 
 -- the listing for a client, by mount point
 unfoldable pub listing_of : Content → ℕ → List Shown
-listing_of content address = filter_map (λ mount. shown_at content address mount.path) content.table
+listing_of content address = filter_map (λ mount. shown_of_mount content address mount.path) content.table
 
 -- the path is shown of this file system
 abbrev pub shows : ℕ → List (List ℕ) → Shown → Bool

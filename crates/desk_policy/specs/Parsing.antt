@@ -24,7 +24,7 @@ use Rattle.desk_policy.specs.Policy.{Content, content_of, with_warnings}
 use Rattle.desk_policy.specs.Row.{row_of}
 use Rattle.desk_policy.specs.Site.{SiteTexts}
 use Rattle.desk_policy.specs.SiteFault.{exports_name, group_fault, line_fault, table_fault}
-use Rattle.desk_policy.specs.Unlisted.{unlisted_line}
+use Rattle.desk_policy.specs.UnlistedCustodians.{unlisted_line}
 use Rattle.desk_policy.specs.Warning.{entry_warnings, netgroup_warnings, whole_warnings}
 use Rattle.desk_policy.specs.declared.parsing.SiteTables.{SiteTables}
 use Rattle.desk_policy.specs.declared.per_table.PerTable.{PerTable}

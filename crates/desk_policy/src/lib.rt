@@ -8,7 +8,7 @@
 //! ```
 #![tactic(auto)]
 
-pub mod acting;
+pub mod acting_as;
 pub mod contradiction;
 mod first_lines;
 mod known_names;
@@ -27,13 +27,13 @@ pub mod site;
 pub mod site_fault;
 pub mod site_file;
 mod terms;
-pub mod unlisted;
+pub mod unlisted_custodians;
 pub mod verdict;
 pub mod view;
 pub mod warning;
 mod weights;
 
-pub use acting::act_as;
+pub use acting_as::act_as;
 pub use contradiction::{Contradiction, contradiction_in, contradictions};
 pub use laws::{
     addresses_are_unique, ascending_entries_ascend_in_each_file, each_has_its_lines,
@@ -60,7 +60,7 @@ pub use site::{ExportsText, Site};
 pub use site_fault::{FaultPlace, SiteFault, SiteRule};
 pub use site_file::{SiteFile, exports_file_name, exports_place, mount_of};
 pub use terms::same_terms;
-pub use unlisted::unlisted_line;
+pub use unlisted_custodians::unlisted_line;
 pub use verdict::{Denial, Verdict, decide};
 pub use view::{Plain, PolicyView, compile, contradiction_of_rows, least_contradiction};
 pub use warning::{Warning, WarningKind, netgroup_warnings, whole_warnings};

@@ -52,7 +52,7 @@ fn listing_under(alloc: Global, policy: &Policy, address: Addr) -> Result<Vec<Sh
 {
     let mut listing = Vec::new(alloc);
     for mount in policy.filesystems().as_slice() {
-        let shown = shown_at(alloc, policy, &mount.path, address)?;
+        let shown = shown_of_mount(alloc, policy, &mount.path, address)?;
         push_if_shown(&mut listing, shown)?;
     }
     Ok(listing)
@@ -69,17 +69,17 @@ fn push_if_shown(listing: &mut Vec<Shown>, shown: Option<Shown>) -> Result<(), A
 }
 
 /// Finds what a client may mount of the file system of a mount point.
-fn shown_at(
+fn shown_of_mount(
     alloc: Global,
     policy: &Policy,
     mount: &Path,
     address: Addr,
 ) -> Result<Option<Shown>, AllocError>
-    ensures { IfOk result (λ shown. shown ≡ spec.shown_at policy.now (number_of address) mount.now) }
+    ensures { IfOk result (λ shown. shown ≡ spec.shown_of_mount policy.now (number_of address) mount.now) }
 {
     match policy.filesystems().of(mount) {
         Some(fs) => {
-            let shown = shown_of(alloc, policy, fs, address)?;
+            let shown = shown_of_system(alloc, policy, fs, address)?;
             Ok(shown)
         }
         None => Ok(None),
@@ -87,23 +87,23 @@ fn shown_at(
 }
 
 /// Finds what a client may mount of a file system, if one of its lines matches.
-fn shown_of(
+fn shown_of_system(
     alloc: Global,
     policy: &Policy,
     fs: FsId,
     address: Addr,
 ) -> Result<Option<Shown>, AllocError>
-    ensures { IfOk result (λ shown. shown ≡ spec.shown_of policy.now (number_of address) fs.0) }
+    ensures { IfOk result (λ shown. shown ≡ spec.shown_of_system policy.now (number_of address) fs.0) }
 {
     let Some(weight) = greatest_weight(policy.rows(fs), address) else {
         return Ok(None);
     };
-    let shown = shown_with(alloc, policy, fs, address, weight)?;
+    let shown = shown_of_weight(alloc, policy, fs, address, weight)?;
     Ok(shown)
 }
 
 /// Gathers what the lines that match with this weight show of their file system.
-fn shown_with(
+fn shown_of_weight(
     alloc: Global,
     policy: &Policy,
     fs: FsId,
@@ -111,15 +111,15 @@ fn shown_with(
     weight: u8,
 ) -> Result<Option<Shown>, AllocError>
     ensures { IfOk result
-        (λ shown. shown ≡ spec.shown_by policy.now fs.0 (filter (has_weight (number_of address) weight) (rows_of policy.now fs.0))) }
+        (λ shown. shown ≡ spec.shown_of_selected policy.now fs.0 (filter (has_weight (number_of address) weight) (rows_of policy.now fs.0))) }
 {
     let chosen = all_with(alloc, policy.rows(fs), address, weight)?;
-    let shown = shown_by(alloc, policy, fs, chosen.as_slice())?;
+    let shown = shown_of_selected(alloc, policy, fs, chosen.as_slice())?;
     Ok(shown)
 }
 
 /// Gathers what these lines of a file system, which are selected, show of it, if there are any.
-fn shown_by(
+fn shown_of_selected(
     alloc: Global,
     policy: &Policy,
     fs: FsId,

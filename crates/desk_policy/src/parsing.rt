@@ -34,7 +34,7 @@ use crate::row::Row;
 use crate::site::Site;
 use crate::site_fault::{SiteFault, SiteRule};
 use crate::site_file::{SiteFile, exports_file_name};
-use crate::unlisted::unlisted_line;
+use crate::unlisted_custodians::unlisted_line;
 use crate::warning::{Warning, push_entry, push_netgroup, whole_warnings};
 use desk_exports::{Boxed, Entry, Profile, Rule, Tables, read_file, read_whole};
 use desk_netgroup::{GroupFault, Netgroups};

@@ -1,7 +1,7 @@
 -- An address that a line matches.
 use Rattle.std.proofs.Common.{◌≡◌, ◌<◌, ◌≤◌, ◌^◌, ◌∙◌, ℕ, cond, List, [], ◌∷◌, Option, Some, None, ap, arith, get_or, length, map, refl, subst, sym}
 use Rattle.std.specs.Prelude.{IsSome}
-use Rattle.std.proofs.lemmas.Bool.{cond-true, eq-eqb, or_left, true≢false}
+use Rattle.std.proofs.lemmas.Bool.{cond-true, eq-eqb, or_left}
 use Rattle.desk_text.specs.Address.{number_of}
 use Rattle.desk_text.specs.AddrSet.{is_among}
 use Rattle.desk_text.specs.declared.address.Addr.{Addr}
@@ -26,7 +26,3 @@ first_among (first ∷ others) addresses number other are some is below = record
   is_address = below;
   among = ap (is_among number) (sym are) ∙ or_left _ _ (eq-eqb (number_of first) number (sym is));
 }
-
-pub nobody : (o : Option ℕ) → o ≡ None → IsSome o → ⊥
-nobody None e some = true≢false (sym some)
-nobody (Some w) e some = let wrong : Some w ≡ None = e in cc

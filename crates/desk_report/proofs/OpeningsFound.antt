@@ -1,6 +1,6 @@
 -- What the search for openings finds, where that may change, and what it asks.
 use Rattle.std.proofs.Common.{◌≡◌, ℕ, ◌+◌, ◌∙◌, List, [], ap, arith, refl, subst, sym}
-use Rattle.std.specs.Prelude.{Err, None, Option, Some}
+use Rattle.std.specs.Prelude.{None, Option, Some}
 use Rattle.std.specs.List.Sorted.{IsStrictlyIncreasing}
 use Rattle.std.specs.Option.{option_map}
 use Rattle.desk_text.specs.Address.{number_of}

@@ -256,10 +256,6 @@ module _ (compare : AreDiscrete Verdict) where
     one_range rows new so_far (inl adds) = in_last rows new so_far adds
     one_range rows new so_far (inr adds) = in_new rows new so_far adds
 
--- nothing yet
-pub rowed_none : (compare : AreDiscrete Verdict) → Rowed compare [] []
-rowed_none compare = record { verdicts = []; are = refl; rise = tt; all = tt; from = tt }
-
 -- a range is added to the last of the rows as they are kept
 pub adds_last : (rows : List TableRow) (place : ℕ) (row new : TableRow) (range : Run Verdict) → place + 1 ≡ length rows → row ≡ get_or rows place row → row_value new ≡ with_range (row_value row) range
     → EndsAlike (map row_value rows) range → AddsToLast (map row_value rows) (map row_value (set rows place new)) range

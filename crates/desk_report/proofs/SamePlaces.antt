@@ -26,9 +26,6 @@ Verdict = Result Grant Denial
 abbrev granting : Verdict → Option Verdict
 granting verdict = passing is_ok verdict
 
-ok_of : Verdict → Option Grant
-ok_of verdict = result_ok verdict
-
 same_granting : (verdict other : Verdict) → result_ok other ≡ result_ok verdict → granting other ≡ granting verdict
 same_granting (Ok grant) (Ok other) is = (let same : other ≡ grant = cc in ap (λ g. Some (Ok g)) same)
 same_granting (Ok grant) (Err other) is = absurd (cc)

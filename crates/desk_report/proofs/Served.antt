@@ -1,17 +1,16 @@
 -- What the server does otherwise, of one line of those that are found.
-use Rattle.std.proofs.Common.{◌≡◌, ℕ, ◌<◌, ◌∙◌, Bool, true, false, cond, List, [], ◌∷◌, Option, None, Some, ap, arith, find, get_or, inl, inr, refl, subst, sym}
+use Rattle.std.proofs.Common.{◌≡◌, ℕ, ◌<◌, ◌∙◌, true, false, cond, List, [], ◌∷◌, Option, None, Some, ap, find, get_or, inl, inr, refl, subst, sym}
 use Rattle.std.specs.Prelude.{◌==◌, ◌||◌, All, Contains}
-use Rattle.std.specs.List.{flat_map, list_any}
-use Rattle.std.proofs.lemmas.Bool.{cases_Bool, eq-eqb, eqb-true, true≢false}
+use Rattle.std.specs.List.{list_any}
+use Rattle.std.proofs.lemmas.Bool.{cases_Bool, eqb-true, true≢false}
 use Rattle.std.proofs.lemmas.List.Elements.{All-head, All-tail, Contains-get_or}
 use Rattle.std.proofs.lemmas.Option.{same_Some}
 use Rattle.desk_idle.specs.Laws.{WriteDirectories}
-use Rattle.desk_policy.specs.Keys.{LineKey}
-use Rattle.desk_policy.specs.Policy.{AreAscending, Content, rows_of}
+use Rattle.desk_policy.specs.Policy.{Content, rows_of}
 use Rattle.desk_policy.specs.declared.row.Row.{Row}
 use Rattle.desk_tables.specs.FileSystems.{fs_of}
-use Rattle.desk_server.specs.RepeatedClients.{AreRepeatedClients, IsRepeatedClient, SharesClient}
-use Rattle.desk_server.specs.WiderGrants.{AreWiderGrants, IsWiderAt, IsWiderGrant}
+use Rattle.desk_server.specs.RepeatedClients.{IsRepeatedClient}
+use Rattle.desk_server.specs.WiderGrants.{IsWiderGrant}
 use Rattle.desk_server.specs.declared.repeated_client.RepeatedClient.{RepeatedClient}
 use Rattle.desk_server.specs.declared.wider_grant.WiderGrant.{WiderGrant}
 use Rattle.desk_report.specs.Laws.{IsSound}

@@ -20,7 +20,7 @@ use Rattle.desk_policy.specs.SiteFault.{table_fault}
 use Rattle.desk_policy.specs.declared.parsing.SiteTables.{SiteTables}
 use Rattle.desk_policy.specs.declared.row.Row.{Row}
 use Rattle.desk_policy.specs.declared.site_fault.SiteFault.{SiteFault}
-use Rattle.desk_policy.specs.Unlisted.{unlisted_line}
+use Rattle.desk_policy.specs.UnlistedCustodians.{unlisted_line}
 use Rattle.std.specs.Prelude.{Option, Some, None}
 use Rattle.desk_report.specs.Laws.{HaveNumbers, IsSoundIfRead}
 

@@ -2,7 +2,7 @@
 -- own, over exports(5))
 use Rattle.std.specs.Prelude.{ℕ, ◌==◌, nat_lt, Bool, [], Result, Ok, Err, if◌then◌else◌}
 use Rattle.desk_exports.specs.declared.entry.Terms.{Terms}
-use Rattle.desk_policy.specs.Acting.{act_as}
+use Rattle.desk_policy.specs.ActingAs.{act_as}
 use Rattle.desk_policy.specs.Verdict.{Grant}
 use Rattle.desk_policy.specs.declared.verdict.Denial.{Denial}
 use Rattle.desk_report.specs.declared.class.Class.{Class}

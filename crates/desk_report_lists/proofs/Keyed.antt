@@ -1,6 +1,6 @@
 -- Values in byte order of their keys, those of one key in an order of their own: what a stable sort keeps, and what stands
 -- where a search for a key ends.
-use Rattle.std.proofs.Common.{◌≡◌, ◌<◌, ◌≤◌, ◌+◌, ◌++◌, ℕ, Bool, true, false, not, ◌&&◌, List, [], ◌∷◌, cond, length, get_or, filter, suc, take, zero, nat_cmp, ap, sym, ◌∙◌, refl, inl, inr, arith}
+use Rattle.std.proofs.Common.{◌≡◌, ◌<◌, ◌≤◌, ℕ, Bool, true, false, not, ◌&&◌, List, [], ◌∷◌, cond, length, get_or, filter, suc, take, zero, nat_cmp, ap, sym, ◌∙◌, refl, inl, inr, arith}
 use Rattle.std.specs.Prelude.{◌⊎◌}
 use Rattle.std.specs.Cmp.Lexicographic.{slice_cmp}
 use Rattle.std.specs.List.Sorted.{IsPartitionPoint, IsPartitionedBy, IsSortedBy, IsStableBy, ties}
@@ -8,10 +8,9 @@ use Rattle.std.specs.Ordering.{is_eq, is_lt, ordering_reverse}
 use Rattle.std.specs.Str.{bytes_eq}
 use Rattle.std.specs.declared.cmp.Ordering.{Ordering}
 use Rattle.std.specs.declared.cmp.Ordering.TheVariants.{Less, Equal, Greater}
-use Rattle.std.proofs.lemmas.Bool.{cases_Bool, cond-false, cond-true, true≢false}
+use Rattle.std.proofs.lemmas.Bool.{cases_Bool, cond-false, true≢false}
 use Rattle.std.proofs.lemmas.Cmp.{nat_list_cmp_total}
-use Rattle.std.proofs.lemmas.List.{get_or_default, take_more}
-use Rattle.std.proofs.lemmas.List.Elements.{filter-append}
+use Rattle.std.proofs.lemmas.List.{get_or_default}
 use Rattle.std.proofs.lemmas.List.Sorted.{ranks_by, sorted_far}
 use Rattle.std.proofs.lemmas.Map.Text.{is_eq-slice_cmp}
 use Rattle.std.proofs.lemmas.Slice.Eq.{bytes_eq-Decides}
@@ -31,11 +30,6 @@ apart Less h = refl
 apart Equal h = absurd (true≢false (sym h))
 apart Greater h = refl
 
-turned : (o : Ordering) → is_eq o ≡ is_eq (ordering_reverse o)
-turned Less = refl
-turned Equal = refl
-turned Greater = refl
-
 module _ {X : Type 0} (t : X → Bool) where
   none_kept : (xs : List X) → ((k : ℕ) (d : X) → k < length xs → t (get_or xs k d) ≡ false) → filter t xs ≡ []
   none_kept [] h = refl
@@ -54,13 +48,6 @@ module _ {X : Type 0} (t : X → Bool) where
   all_in_front zero (x ∷ xs) h = none_kept (x ∷ xs) (λ k d less. h k d (omega arith) less)
   all_in_front (suc i) [] h = refl
   all_in_front (suc i) (x ∷ xs) h = ap (λ l. cond (t x) (x ∷ l) l) (all_in_front i xs (λ k d le less. h (suc k) d (omega arith) (omega arith)))
-
-  -- one more value that passes
-  pub kept_more : (xs : List X) (i : ℕ) (x : X) → i < length xs → x ≡ get_or xs i x → t x ≡ true → filter t (take (i + 1) xs) ≡ filter t (take i xs) ++ x ∷ []
-  kept_more xs i x below is passes =
-      ap (filter t) (take_more xs i x below ∙ ap (λ y. take i xs ++ y ∷ []) (sym is))
-      ∙ filter-append t (take i xs) (x ∷ [])
-      ∙ ap (λ l. filter t (take i xs) ++ l) (cond-true (t x) (x ∷ []) [] passes)
 
 -- a value that passes, or the test passes none
 first_of : {X : Type 0} (t : X → Bool) (xs : List X) → ((x : X) × (t x ≡ true)) ⊎ (filter t xs ≡ [])
@@ -83,9 +70,6 @@ module _ {X : Type 0} (key : X → List ℕ) where
 
   abbrev pub is_before : List ℕ → X → Bool
   is_before name x = is_lt (slice_cmp nat_cmp (key x) name)
-
-  pub has_is : (name : List ℕ) (x : X) → is_eq (slice_cmp nat_cmp (key x) name) ≡ has name x
-  has_is name x = turned (slice_cmp nat_cmp (key x) name) ∙ ap is_eq (sym (nat_list_cmp_total.antisymm name (key x))) ∙ is_eq-slice_cmp name (key x)
 
   tied : (x y : X) → ties is_below x y ≡ has (key x) y
   tied x y =

@@ -12,14 +12,12 @@ use Rattle.desk_report.specs.Classes.{class_run}
 use Rattle.desk_report.specs.Systems.{AreSystems, IsSystem, SystemValue, system_value}
 use Rattle.desk_report.specs.declared.systems.FileSystemReport.{FileSystemReport}
 use Rattle.desk_page_maps.specs.Figures.{GainsFileSystemMaps}
-use Rattle.desk_page_filesystem.specs.Parts.{file_system}
 use Rattle.desk_page_filesystem.specs.declared.parts.ProposalPart.{ProposalPart}
-use Rattle.desk_report_filesystem.specs.Parts.{IsReadableHead, Tells}
-use Rattle.desk_report_filesystem.specs.declared.parts.FileSystemData.{FileSystemData}
+use Rattle.desk_report_filesystem.specs.Parts.{IsReadableHead}
 use Rattle.desk_report_places.specs.Groups.{AreListedGroups, listed_value}
 use Rattle.desk_report_page.specs.SystemParts.{AreFindingsIn, AreTextsFrom, IsSystemText, TellingValue, TellsIfAny, head_in, waiting_for}
 use Rattle.desk_report_page.specs.Pieces.{Gains}
-use Rattle.desk_report_page.specs.PrivateSystemParts.{CanWait, IsMadeOf, IsOfSite, IsSystemOf, IsTextFor, IsTextWith}
+use Rattle.desk_report_page.specs.PrivateSystemParts.{CanWait, IsOfSite, IsSystemOf, IsTextFor, IsTextWith}
 use Rattle.desk_report_page.specs.WaitingProposals.{Waiting, waiting_value}
 use Rattle.desk_report_page.specs.declared.system_parts.ToldSystem.{ToldSystem}
 use Rattle.desk_report_page.specs.declared.waiting_proposals.Waiting.{Waiting as LentWaiting}
@@ -96,15 +94,6 @@ waits telling site fs =
 pub found_value : {V : Type 0} (in_force : V → Content) (waiting : List (LentWaiting V)) (fs : ℕ) (o : Option (LentWaiting V)) → o ≡ find (λ one. one.fs.0 == fs) waiting
     → waiting_for (map (waiting_value in_force) waiting) fs ≡ option_map (waiting_value in_force) o
 found_value in_force waiting fs o is = found_mapped (waiting_value in_force) (λ one. one.fs == fs) waiting ∙ ap (option_map (waiting_value in_force)) (sym is)
-
--- what the data tells is the part on the file system, with its proposal
-pub with_is : (telling : TellingValue) (told : ToldSystem) (given : FileSystemData) → IsMadeOf telling told given → (old new : List ℕ) → Tells given old new
-    → Gains (IsTextWith telling told given.proposal) old new
-with_is telling told given made old new tells = record {
-  text = file_system tells.part;
-  is = record { given = given; made = made; proposal_is = refl; part = tells.part; is_part = tells.is; text_is = refl };
-  added = tells.added;
-}
 
 -- with what waits, if the proposal tells that
 pub for_is : (telling : TellingValue) (told : ToldSystem) (waiting : Option Waiting) (proposal : Option ProposalPart) → TellsIfAny telling.content waiting proposal → (old new : List ℕ)

@@ -1,4 +1,5 @@
 pub mod LogReport
+pub mod Logs
 pub mod PrivateSarif
 pub mod Sarif
 pub mod SarifRules

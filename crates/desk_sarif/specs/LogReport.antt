@@ -3,7 +3,7 @@ use Rattle.std.specs.Prelude.{◌≡◌, ℕ, Bool, List, None, Some}
 use Rattle.std.specs.String.{string_bytes}
 use Rattle.desk_findings.specs.declared.check_text.Gathered.{Gathered}
 use Rattle.desk_check.specs.CheckReport.{passes}
-use Rattle.desk_check.specs.Ignored.{heard}
+use Rattle.desk_check.specs.IgnoredWarnings.{heard}
 use Rattle.desk_check.specs.declared.check_report.Checked.{Checked}
 use Rattle.desk_sarif.specs.Sarif.{findings_sarif}
 

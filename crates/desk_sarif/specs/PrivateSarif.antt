@@ -1,12 +1,13 @@
 -- What the private contracts of the results of a log cite.
 use Rattle.std.specs.Prelude.{ℕ, Bool, List, Option, None, Some, codes}
 use Rattle.serde_json.specs.Data.{Members, put}
-use Rattle.desk_sarif.specs.Sarif.{other_line, single, suppressions}
+use Rattle.desk_sarif.specs.Logs.{line_in, single}
+use Rattle.desk_sarif.specs.Sarif.{suppressions}
 
 -- the members with that of another line, if there is one
 abbrev pub put_other : List ℕ → List ℕ → Option ℕ → Members → Members
 put_other words path None members = members
-put_other words path (Some line) members = put (codes "relatedLocations") (single (other_line words path line)) members
+put_other words path (Some line) members = put (codes "relatedLocations") (single (line_in words path line)) members
 
 -- the members with what is said of suppression, if it is said
 abbrev pub put_suppressions : Option Bool → Members → Members

@@ -15,6 +15,7 @@ use Rattle.desk_remarks.specs.declared.remark.Remark.{Remark}
 use Rattle.desk_findings.specs.Finding.{name_of, number_of}
 use Rattle.desk_findings.specs.declared.finding.Matter.{Matter}
 use Rattle.desk_findings.specs.declared.finding.Matter.TheVariants as matter
+use Rattle.desk_sarif.specs.Logs.{text_data}
 
 -- the word for what is numbered by itself: the rules of an exports file, of the netgroup file and of the other tables, and the
 -- kinds of warnings
@@ -62,13 +63,6 @@ fault_rules = map rule.Line lines.rules_in_order ++ rule.Contradiction ∷ [] ++
 -- each of them
 abbrev pub log_rules : List Matter
 log_rules = map broken fault_rules ++ map matter.Warning warning_kinds ++ map remarked remarks
-
--- an object with one member, and one with a text
-abbrev pub only : List ℕ → Data → Data
-only key value = object (member key value no_members)
-
-abbrev pub text_data : List ℕ → Data
-text_data text = only (codes "text") (string text)
 
 -- a rule as an object: its help, its id and its name
 abbrev pub rule_data : Matter → Data

@@ -10,10 +10,14 @@
 #![tactic(auto)]
 
 mod log_report;
+mod logs;
 mod sarif;
 mod sarif_rules;
 mod sarif_uri;
 
 pub use log_report::{report_heard_log, report_log};
+pub use logs::{
+    column_behind, line_place, line_value, log_text, message_value, place_value, slice_region,
+};
 pub use sarif::findings_sarif;
 pub use sarif_rules::{each_has_its_rule, ids_differ};

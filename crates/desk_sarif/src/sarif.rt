@@ -1,34 +1,24 @@
-//! How findings are printed as a log of SARIF 2.1.0, the form that code hosts show beside a change. The text is what serde_json's
-//! definition of compact JSON says of the log. That a reader gives the same values back is only tested.
+//! How findings are printed as a log of SARIF 2.1.0.
 
-ghost use Rattle.std.specs.Prelude.{◌≡◌, ◌++◌, [], IfOk, OnOk, codes, length, map};
-ghost use Rattle.std.specs.List.{flat_map};
+ghost use Rattle.std.specs.Prelude.{◌≡◌, [], IfOk, OnOk, codes, map};
 ghost use Rattle.std.specs.Option.{option_map};
-ghost use Rattle.std.specs.Str.{chars};
 ghost use Rattle.std.specs.String.{string_bytes};
 ghost use Rattle.serde_json.specs.Data.{object, put as put_member, string};
 ghost use Rattle.serde_json.specs.View.{members_view, view};
-ghost use Rattle.serde_json.specs.Written.{compact_text};
 ghost use Rattle.desk_findings.specs.Finding.{HasSlice, HaveSlices};
 ghost use Rattle.desk_check.specs.FindingPrints.{message_of, other_of};
+ghost use Rattle.desk_sarif.specs.Logs.{line_in, message_data, single};
 ghost use Rattle.desk_sarif.specs.PrivateSarif.{put_other, put_suppressions};
 ghost use Rattle.desk_sarif.specs.Sarif as spec;
-ghost use Rattle.desk_sarif.specs.SarifRules.{rule_id as id_of, text_data};
+ghost use Rattle.desk_sarif.specs.SarifRules.{rule_id as id_of};
 
+use crate::logs::{column_behind, line_value, log_text, message_value, place_value, slice_region};
 use crate::sarif_rules::{all_rule_values, rule_id};
-use crate::sarif_uri::uri_of;
 use desk_check::{add_text, is_ignored, push_message};
 use desk_findings::{Finding, Matter};
 use desk_remarks::Remark;
 use serde_json::{Map, Value, json, put};
 use std::alloc::{AllocError, Global};
-
-/// Where a program that reads a log finds the form of one.
-const SCHEMA: &str =
-    "https://docs.oasis-open.org/sarif/sarif/v2.1.0/errata01/os/schemas/sarif-schema-2.1.0.json";
-
-/// The version of this program, as `exportdesk --version` prints it.
-const VERSION: &str = "1.1.0";
 
 /// Prints findings in their order as the results of one log, in compact JSON and a line end. A result has `level` (`error`,
 /// `warning` or, for an opinion, `note`), one of `locations` (the file and the region of its slice), `message`, for what names
@@ -42,61 +32,9 @@ pub fn findings_sarif(
     requires { HaveSlices findings.now }
     ensures { IfOk result (λ text. string_bytes text ≡ spec.findings_sarif (option_map (λ numbers. numbers.now) ignored.entry) findings.now) }
 {
-    let mut text = log_text(alloc, ignored, findings)?;
-    text.push('\n')?;
-    Ok(text)
-}
-
-/// Writes a log.
-fn log_text(
-    alloc: Global,
-    ignored: Option<&[u32]>,
-    findings: &[Finding],
-) -> Result<String, AllocError>
-    requires { HaveSlices findings.now }
-    ensures { IfOk result (λ text. string_bytes text ≡ compact_text (spec.log_of (option_map (λ numbers. numbers.now) ignored.entry) findings.now)) }
-{
-    let value = log_value(alloc, ignored, findings)?;
-    value.to_string(alloc)
-}
-
-/// Makes a log.
-fn log_value(
-    alloc: Global,
-    ignored: Option<&[u32]>,
-    findings: &[Finding],
-) -> Result<Value, AllocError>
-    requires { HaveSlices findings.now }
-    ensures { IfOk result (λ value. view value ≡ spec.log_of (option_map (λ numbers. numbers.now) ignored.entry) findings.now) }
-{
-    let run = run_value(alloc, ignored, findings)?;
-    json!(in alloc; {"$schema": SCHEMA, "runs": [run], "version": "2.1.0"})
-}
-
-/// Makes the run of a log.
-fn run_value(
-    alloc: Global,
-    ignored: Option<&[u32]>,
-    findings: &[Finding],
-) -> Result<Value, AllocError>
-    requires { HaveSlices findings.now }
-    ensures { IfOk result (λ value. view value ≡ spec.run_of (option_map (λ numbers. numbers.now) ignored.entry) findings.now) }
-{
-    let results = result_values(alloc, ignored, findings)?;
-    let driver = driver_value(alloc)?;
-    json!(in alloc; {
-        "columnKind": "unicodeCodePoints",
-        "results": results,
-        "tool": {"driver": driver},
-    })
-}
-
-/// Makes what a log says of the program.
-fn driver_value(alloc: Global) -> Result<Value, AllocError>
-    ensures { IfOk result (λ value. view value ≡ spec.driver) }
-{
     let rules = all_rule_values(alloc)?;
-    json!(in alloc; {"name": "exportdesk", "rules": rules, "version": VERSION})
+    let results = result_values(alloc, ignored, findings)?;
+    log_text(alloc, rules, results)
 }
 
 /// Makes the results of findings.
@@ -190,7 +128,7 @@ fn add_location(
 ) -> Result<(), AllocError>
     requires { HasSlice finding.now }
     ensures { OnOk result (members_view members.new.entries
-        ≡ put_member (codes "locations") (spec.single (spec.location_of finding.now)) (members_view members.old.entries)) }
+        ≡ put_member (codes "locations") (single (spec.location_of finding.now)) (members_view members.old.entries)) }
 {
     let locations = locations_value(alloc, finding)?;
     put(members, alloc, "locations", locations)
@@ -199,7 +137,7 @@ fn add_location(
 /// Makes the list of where a finding is.
 fn locations_value(alloc: Global, finding: &Finding) -> Result<Value, AllocError>
     requires { HasSlice finding.now }
-    ensures { IfOk result (λ value. view value ≡ spec.single (spec.location_of finding.now)) }
+    ensures { IfOk result (λ value. view value ≡ single (spec.location_of finding.now)) }
 {
     let region = region_value(alloc, finding)?;
     let place = place_value(alloc, finding.path, region)?;
@@ -211,37 +149,8 @@ fn region_value(alloc: Global, finding: &Finding) -> Result<Value, AllocError>
     requires { HasSlice finding.now }
     ensures { IfOk result (λ value. view value ≡ spec.region_of finding.now) }
 {
-    let end = end_column(finding)?;
-    json!(in alloc; {
-        "endColumn": end,
-        "startColumn": finding.column,
-        "startLine": finding.line(),
-    })
-}
-
-/// Returns the column behind the slice of a finding. Only the slice is counted, so that the work stays linear when a long line
-/// has many findings. (A line whose columns no number tells has no room in memory.)
-fn end_column(finding: &Finding) -> Result<usize, AllocError>
-    requires { HasSlice finding.now }
-    ensures { IfOk result (λ column. column ≡ spec.end_column finding.now) }
-{
-    let characters = count_characters(finding.slice());
-    finding.column.checked_add(characters).ok_or(AllocError)
-}
-
-/// Counts the characters of a text.
-fn count_characters(text: &str) -> usize
-    ensures { result ≡ length (chars text.now) }
-{
-    text.chars().count()
-}
-
-/// Makes a region of the file of a path.
-fn place_value(alloc: Global, path: &str, region: Value) -> Result<Value, AllocError>
-    ensures { IfOk result (λ value. view value ≡ spec.place_in path.now (view region)) }
-{
-    let uri = uri_of(alloc, path)?;
-    json!(in alloc; {"artifactLocation": {"uri": uri}, "region": region})
+    let end = column_behind(finding.column, finding.slice())?;
+    slice_region(alloc, finding.line(), finding.column, end)
 }
 
 /// Adds what a finding says.
@@ -252,56 +161,20 @@ fn add_message(
 ) -> Result<(), AllocError>
     requires { HasSlice finding.now }
     ensures { OnOk result (members_view members.new.entries
-        ≡ put_member (codes "message")
-        (text_data (spec.message_text (message_of finding.now)))
-        (members_view members.old.entries)) }
+        ≡ put_member (codes "message") (message_data (message_of finding.now)) (members_view members.old.entries)) }
 {
-    let message = message_value(alloc, finding)?;
+    let message = finding_message(alloc, finding)?;
     put(members, alloc, "message", message)
 }
 
 /// Makes the message of a finding.
-fn message_value(alloc: Global, finding: &Finding) -> Result<Value, AllocError>
+fn finding_message(alloc: Global, finding: &Finding) -> Result<Value, AllocError>
     requires { HasSlice finding.now }
-    ensures { IfOk result (λ value. view value
-        ≡ text_data (spec.message_text (message_of finding.now))) }
-{
-    let text = message_text(alloc, finding)?;
-    json!(in alloc; {"text": text})
-}
-
-/// Writes the message of a finding.
-fn message_text(alloc: Global, finding: &Finding) -> Result<String, AllocError>
-    requires { HasSlice finding.now }
-    ensures { IfOk result (λ text. string_bytes text
-        ≡ spec.message_text (message_of finding.now)) }
+    ensures { IfOk result (λ value. view value ≡ message_data (message_of finding.now)) }
 {
     let mut message = String::new(alloc);
     push_message(finding, &mut message)?;
-    let mut text = String::new(alloc);
-    push_in_message(message.as_str(), &mut text)?;
-    Ok(text)
-}
-
-/// Adds a text to a message, with each brace doubled: a single one would begin or end a placeholder.
-fn push_in_message(text: &str, message: &mut String) -> Result<(), AllocError>
-    ensures { OnOk result (string_bytes message.new ≡ string_bytes message.old ++ flat_map spec.in_message (chars text.now)) }
-{
-    for c in text.chars() {
-        push_in_message_character(c, message)?;
-    }
-    Ok(())
-}
-
-/// Adds a character to a message.
-fn push_in_message_character(c: char, message: &mut String) -> Result<(), AllocError>
-    ensures { OnOk result (string_bytes message.new ≡ string_bytes message.old ++ spec.in_message c) }
-{
-    match c {
-        '{' => message.push_str("{{"),
-        '}' => message.push_str("}}"),
-        _ => message.push(c),
-    }
+    message_value(alloc, message.as_str())
 }
 
 /// Adds the line that a finding names beside its own, if it names one.
@@ -341,19 +214,11 @@ fn add_line(
     members: &mut Map<String, Value>,
 ) -> Result<(), AllocError>
     ensures { OnOk result (members_view members.new.entries
-        ≡ put_member (codes "relatedLocations") (spec.single (spec.other_line words.now path.now line)) (members_view members.old.entries)) }
+        ≡ put_member (codes "relatedLocations") (single (line_in words.now path.now line)) (members_view members.old.entries)) }
 {
-    let lines = line_value(alloc, path, line, words)?;
+    let other = line_value(alloc, path, line, words)?;
+    let lines = json!(in alloc; [other])?;
     put(members, alloc, "relatedLocations", lines)
-}
-
-/// Makes the list of one line of the file of a path, with these words.
-fn line_value(alloc: Global, path: &str, line: u32, words: &str) -> Result<Value, AllocError>
-    ensures { IfOk result (λ value. view value ≡ spec.single (spec.other_line words.now path.now line)) }
-{
-    let region = json!(in alloc; {"startLine": line})?;
-    let place = place_value(alloc, path, region)?;
-    json!(in alloc; [{"message": {"text": words}, "physicalLocation": place}])
 }
 
 /// Adds the id of the rule that a finding is about.

@@ -1,6 +1,6 @@
 //! The rules of a log of SARIF: all that a finding may be about, each with an id, a name and a help.
 
-ghost use Rattle.std.specs.Prelude.{◌≡◌, ◌++◌, IfOk, OnOk, codes, map};
+ghost use Rattle.std.specs.Prelude.{◌≡◌, ◌++◌, IfOk, OnOk, map};
 ghost use Rattle.std.specs.String.{string_bytes};
 ghost use Rattle.serde_json.specs.View.{view};
 ghost use Rattle.desk_policy.specs.declared.site_fault.SiteRule.TheVariants.{Group, Line, Table};

@@ -1,7 +1,7 @@
 -- The verdict of the server among the lines of a file system changes only where their weights do, and is asked only of lines that
 -- match.
-use Rattle.std.proofs.Common.{◌≡◌, ℕ, Bool, true, false, cond, List, [], ◌∷◌, sym, ◌∙◌, ap, refl, inl, inr}
-use Rattle.std.specs.Prelude.{Option, None, filter}
+use Rattle.std.proofs.Common.{◌≡◌, ℕ, Bool, cond, List, [], ◌∷◌, ◌∙◌, ap, refl, inl, inr}
+use Rattle.std.specs.Prelude.{Option, filter}
 use Rattle.std.specs.List.{AllByRecursion}
 use Rattle.std.proofs.lemmas.Bool.{cases_Bool}
 use Rattle.desk_tables.specs.declared.filesystems.FsId.{FsId}

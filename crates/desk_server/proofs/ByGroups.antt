@@ -1,14 +1,11 @@
 -- The line that grants by mountd's rule, group by group of lighter lines.
-use Rattle.std.proofs.Common.{◌≡◌, ◌∙◌, ℕ, suc, ◌<◌, ◌≤◌, ◌&&◌, Bool, true, false, cond, eqb, List, [], ◌∷◌, Option, Some, None, Ok, Err, ap, arith, inl, inr, refl, subst, sym}
+use Rattle.std.proofs.Common.{◌≡◌, ◌∙◌, ℕ, suc, ◌<◌, ◌≤◌, ◌&&◌, Bool, true, false, cond, eqb, List, [], ◌∷◌, Option, Some, None, ap, arith, inl, inr, refl, subst, sym}
 use Rattle.std.specs.Prelude.{filter, find, nat_lt, slice_get}
 use Rattle.std.specs.List.{All, Contains, list_all, list_any}
 use Rattle.std.proofs.lemmas.Bool.{and_from, cases_Bool, cases_lt, cond-true, cond-false, eq-eqb, eqb-true, le-leb, lt-ltb}
 use Rattle.std.proofs.lemmas.List.Elements.{All-contains}
 use Rattle.std.proofs.lemmas.List.Folds.{list_any_at}
 use Rattle.desk_policy.specs.Keys.{HasBlock}
-use Rattle.desk_tables.specs.declared.filesystems.FsId.{FsId}
-use Rattle.desk_policy.specs.Verdict.{Grant}
-use Rattle.desk_policy.specs.declared.verdict.Denial.TheVariants.{NoLine, NotListed}
 use Rattle.desk_policy.specs.Weights.{is_at_most, weight_of}
 use Rattle.desk_policy.specs.declared.row.Row.{Row}
 use Rattle.desk_index.specs.Lighter.{AreHeaviestBelow, IsHeaviestBelow, is_weight, weighing}
@@ -16,7 +13,7 @@ use Rattle.desk_index.specs.declared.lighter.Weighed.{Weighed}
 use Rattle.desk_idle.proofs.Heaviest.{few_by, filter_from, filter_has, none_has, some_numbered, weight_is}
 use Rattle.desk_idle.proofs.Looks.{none_passes}
 use Rattle.desk_idle.proofs.Removal.{selected-some, weighs}
-use Rattle.desk_server.specs.Server.{asked, for_everybody, granting, is_everybody, is_named, named, or_others, server_verdict_by}
+use Rattle.desk_server.specs.Server.{asked, for_everybody, granting, is_everybody, is_named, named, or_others}
 use Rattle.desk_server.proofs.Lighter.{found_has}
 use Rattle.desk_server.proofs.Widening.{everybody_weight, named_weight, or_either, selected_from}
 
@@ -230,23 +227,3 @@ module _ (listing : Row → Bool) (rows : List Row) (address : ℕ) where
     -- a group has a line
     pub some_line : (row : Row) × Contains (weighing rows address group.weight) row
     some_line = some_numbered (weighing rows address group.weight) group.lines.now is.lines is.some
-
--- ---- the verdict
-
-pub granted_is : (fs : FsId) (chosen grant_it : List Row) (first row : Row) → Some first ≡ slice_get chosen 0 → Some row ≡ slice_get grant_it 0
-    → server_verdict_by fs chosen grant_it ≡ Ok (record { fs = fs; line = row.entry.line; terms = first.entry.terms })
-granted_is fs [] grant_it first row e f = let wrong : Some first ≡ None = e in cc
-granted_is fs (one ∷ chosen) [] first row e f = let wrong : Some row ≡ None = f in cc
-granted_is fs (one ∷ chosen) (other ∷ grant_it) first row e f =
-    let a : one ≡ first = (let s : Some first ≡ Some one = e in cc) in
-    let b : other ≡ row = (let s : Some row ≡ Some other = f in cc) in
-    ap (λ (r : Row). let g : Grant = record { fs = fs; line = r.entry.line; terms = one.entry.terms } in Ok g) b ∙ ap (λ (r : Row). let g : Grant = record { fs = fs; line = row.entry.line; terms = r.entry.terms } in Ok g) a
-
-pub denied_is : (fs : FsId) (chosen grant_it : List Row) (first : Row) → Some first ≡ slice_get chosen 0 → None ≡ slice_get grant_it 0 → server_verdict_by fs chosen grant_it ≡ Err (NotListed fs first.entry.line)
-denied_is fs [] grant_it first e f = let wrong : Some first ≡ None = e in cc
-denied_is fs (one ∷ chosen) [] first e f = let a : one ≡ first = (let s : Some first ≡ Some one = e in cc) in ap (λ (r : Row). Err (NotListed fs r.entry.line)) a
-denied_is fs (one ∷ chosen) (other ∷ grant_it) first e f = let wrong : None ≡ Some other = f in cc
-
-pub nobody_is : (fs : FsId) (chosen grant_it : List Row) → None ≡ slice_get chosen 0 → server_verdict_by fs chosen grant_it ≡ Err (NoLine fs)
-nobody_is fs [] grant_it e = refl
-nobody_is fs (one ∷ chosen) grant_it e = let wrong : None ≡ Some one = e in cc

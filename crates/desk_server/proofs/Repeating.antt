@@ -3,7 +3,7 @@ use Rattle.std.proofs.Common.{◌≡◌, ◌∙◌, ℕ, ◌<◌, ◌++◌, Bool
 use Rattle.std.specs.List.{All, AllPairs, Contains, list_any}
 use Rattle.std.proofs.lemmas.Bool.{eq-eqb, or_left, or_right}
 use Rattle.std.proofs.lemmas.List.{get_or-take, get_or_append_left, get_or_default, length-take, length_push}
-use Rattle.std.proofs.lemmas.List.Elements.{All-contains, All-nil, All-push, Contains-push, Contains-push_cases}
+use Rattle.std.proofs.lemmas.List.Elements.{All-contains, All-push, Contains-push, Contains-push_cases}
 use Rattle.std.proofs.lemmas.List.Folds.{list_any-append}
 use Rattle.std.proofs.lemmas.List.Quantifiers.{all_pairs_push}
 use Rattle.desk_policy.specs.Keys.{LineKey, has_key}
@@ -20,14 +20,6 @@ pub record AreRepeatedAmong (rows done : List Row) (found : List RepeatedClient)
   pub all : (row other : Row) (client : LineKey) → Contains done row → SharesClient rows row other client → list_any (λ one. eqb one.line row.entry.line) found ≡ true
   pub ascending : AllPairs (λ one later. one.line < later.line) found
   pub below : (line : ℕ) → All (λ row. row.entry.line < line) done → All (λ one. one.line < line) found
-
-pub none_among : (rows : List Row) → AreRepeatedAmong rows [] []
-none_among rows = record {
-  each = All-nil (IsRepeatedClient rows);
-  all = λ row other client has shares. (let inside = has.1 in absurd (omega arith));
-  ascending = λ i j d lt inside. absurd (omega arith);
-  below = λ line all. All-nil (λ (one : RepeatedClient). one.line < line);
-}
 
 -- all lines
 pub all_among : (rows : List Row) (found : List RepeatedClient) → AreRepeatedAmong rows rows found → AreRepeatedClients rows found

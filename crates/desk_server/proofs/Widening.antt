@@ -1,5 +1,5 @@
 -- The server grants some path that is denied here exactly where a line that names the client lists what no selected line does.
-use Rattle.std.proofs.Common.{◌≡◌, ◌⊎◌, ◌∙◌, ℕ, ◌<◌, ◌^◌, Bool, true, false, List, [], ◌∷◌, Option, Some, None, Ok, Err, IsSome, ap, arith, inl, inr, length, refl, subst, sym}
+use Rattle.std.proofs.Common.{◌≡◌, ◌⊎◌, ◌∙◌, ℕ, ◌<◌, ◌^◌, Bool, true, false, List, [], ◌∷◌, Option, Some, None, Ok, Err, IsSome, ap, arith, inl, inr, refl, subst, sym}
 use Rattle.std.specs.Prelude.{filter, find, slice_get}
 use Rattle.std.specs.List.{Contains, list_all, list_any}
 use Rattle.std.specs.Option.{option_map}
@@ -31,9 +31,6 @@ use Rattle.desk_server.specs.WiderGrants.{IsWiderAt}
 -- no element passes
 pub fails : {X : Type 0} (p : X → Bool) (xs : List X) (x : X) → list_any p xs ≡ false → Contains xs x → p x ≡ true → ⊥
 fails p xs x none has passes = true≢false (sym (list_any_at p xs has.0 x has.1 (ap p has.2 ∙ passes)) ∙ none)
-
-not_empty : {X : Type 0} (xs : List X) (x : X) → Contains xs x → xs ≡ [] → ⊥
-not_empty xs x has none = let b = has.1 in let e = ap length none in absurd (omega arith)
 
 -- ---- lines that mountd asks
 

@@ -2,7 +2,6 @@
 -- the server grants more is found there.
 use Rattle.std.proofs.Common.{◌≡◌, ◌∙◌, ◌+◌, ℕ, zero, suc, ◌<◌, ◌≤◌, ◌^◌, ◌||◌, true, false, eqb, List, [], ◌∷◌, Option, Some, None, ap, arith, get_or, inl, inr, length, refl, sym}
 use Rattle.std.specs.Prelude.{Err, IfOk, Ok, Result}
-use Rattle.std.specs.List.Sorted.{IsStrictlyIncreasing}
 use Rattle.std.specs.declared.alloc.AllocError.{AllocError}
 use Rattle.std.proofs.lemmas.Bool.{cases_Bool, cases_lt, eqb-true, or_cases, true≢false}
 use Rattle.std.proofs.lemmas.List.Kept.{AllPairs-from_increasing}

@@ -1,6 +1,6 @@
 -- The line by which mountd grants what no selected line lists: the first of the heaviest that name the client and list it.
 use Rattle.std.proofs.Common.{◌≡◌, ◌∙◌, ℕ, ◌<◌, ◌≤◌, ◌&&◌, Bool, true, false, List, [], ◌∷◌, Option, Some, None, ap, arith, inl, inr, refl, subst, sym}
-use Rattle.std.specs.Prelude.{Result, Ok, Err, filter, find}
+use Rattle.std.specs.Prelude.{Result, Err, filter, find}
 use Rattle.std.specs.List.{Contains, list_all, list_any}
 use Rattle.std.proofs.lemmas.Bool.{and_from, cases_Bool, cases_lt, cond-false, eqb-true, le-leb, lt-ltb, true≢false}
 use Rattle.std.proofs.lemmas.List.Elements.{Contains-append_right, filter_agree}
@@ -9,13 +9,13 @@ use Rattle.desk_tables.specs.FileSystems.{fs_of}
 use Rattle.desk_tables.specs.declared.filesystems.FsId.{FsId}
 use Rattle.desk_index.proofs.SelectedLines.{lists_same}
 use Rattle.desk_policy.specs.Policy.{Content, rows_of}
-use Rattle.desk_policy.specs.Verdict.{Grant, granted_by, lists, lists_here, verdict_among, verdict_in, verdict_of}
+use Rattle.desk_policy.specs.Verdict.{Grant, granted_by, lists, verdict_among, verdict_in, verdict_of}
 use Rattle.desk_policy.specs.Weights.{is_at_most, is_greatest, selected, weight_of}
 use Rattle.desk_policy.specs.declared.row.Row.{Row}
 use Rattle.desk_policy.specs.declared.verdict.Denial.{Denial}
 use Rattle.desk_policy.specs.declared.verdict.Denial.TheVariants.{NoFileSystem, NoLine, NotListed}
 use Rattle.desk_idle.proofs.Looks.{none_passes}
-use Rattle.desk_server.specs.Server.{asked, for_everybody, granted_on, granting, is_everybody, is_named, named, server_verdict_among, server_verdict_by, server_verdict_in, server_verdict_of}
+use Rattle.desk_server.specs.Server.{asked, for_everybody, granted_on, granting, is_everybody, is_named, named, server_verdict_by, server_verdict_in, server_verdict_of}
 use Rattle.desk_server.proofs.Asking.{asked_everybody, asked_named}
 use Rattle.desk_server.proofs.Granting.{server_here}
 use Rattle.desk_server.proofs.Lists.{filter-filter, has_kept, kept_has, passing}
@@ -179,7 +179,3 @@ pub no_line : (content : Content) (address : ℕ) (path : List (List ℕ)) (own 
 unfolding verdict_of server_verdict_of
 no_line content address path own v =
     sym (ap (λ (r : Result Grant Denial). wider_line r (server_verdict_of content address path)) v ∙ matched content address path own (fs_of content.table path) v)
-
-pub granted : (content : Content) (address : ℕ) (path : List (List ℕ)) (grant : Grant) → verdict_of content address path ≡ Ok grant
-    → None ≡ wider_line (verdict_of content address path) (server_verdict_of content address path)
-granted content address path grant v = sym (ap (λ (r : Result Grant Denial). wider_line r (server_verdict_of content address path)) v)

@@ -1,3 +1,2 @@
-pub mod Foresight
 pub mod QuestionAnswers
 pub mod SecondReading

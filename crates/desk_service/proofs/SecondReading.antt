@@ -14,7 +14,7 @@ use Rattle.desk_core.specs.Site.{IsConsistent, site_in}
 use Rattle.desk_core.specs.State.{Starts}
 use Rattle.desk_core.specs.Views.{Kept}
 use Rattle.desk_core.specs.declared.head.Head.{Head}
-use Rattle.desk_service.specs.Readable.{Reads, by_second, second}
+use Rattle.desk_service.specs.ReadableByInit.{Reads, by_second, second}
 
 step : (b : Bool) (head : Head) (rest copied : Option Head) → copied ≡ option_map second rest → cond b (Some (second head)) copied ≡ option_map second (cond b (Some head) rest)
 step true head rest copied e = refl

@@ -1,8 +1,9 @@
+pub mod Approving
 pub mod Edits
 pub mod Files
 pub mod Foreseeing
 pub mod Laws
 pub mod Questions
-pub mod Readable
+pub mod ReadableByInit
 pub mod Refused
 pub mod Sites

@@ -29,7 +29,6 @@ use Rattle.desk_service.specs.declared.questions.FileQuestion.TheVariants as of_
 use Rattle.desk_service.specs.declared.questions.FileText.{FileText}
 use Rattle.desk_service.specs.declared.questions.Looked.{Looked}
 use Rattle.desk_service.specs.declared.questions.Looked.TheVariants as looked
-use Rattle.desk_service.specs.declared.questions.ProposalText.{ProposalText}
 use Rattle.desk_service.specs.declared.questions.Question.{Question as LentQuestion}
 use Rattle.desk_service.specs.declared.questions.Question.TheVariants as lent
 
@@ -78,7 +77,7 @@ pub data Answer : Type 0 where
   RangesAre : Content → List (Run (Result Grant Denial)) → Answer
   TextIs : FileText → Answer
   RevisionsAre : List Signature → Answer
-  ProposalIs : ProposalText → Answer
+  ProposalIs : Pending → Answer
   NoRevision : Answer
   FilesAre : ListedFiles → Answer
   ForeseenIs : Foreseen → Answer
@@ -94,7 +93,7 @@ answer_of in_force (lent_answer.Exports policy) = ExportsAre policy.now
 answer_of in_force (lent_answer.Who policy ranges) = RangesAre policy.now (map range_value ranges.items)
 answer_of in_force (lent_answer.Text text) = TextIs text
 answer_of in_force (lent_answer.Revisions revisions) = RevisionsAre revisions
-answer_of in_force (lent_answer.Proposal proposal) = ProposalIs proposal
+answer_of in_force (lent_answer.Proposal proposal) = ProposalIs proposal.now
 answer_of in_force lent_answer.NoRevision = NoRevision
 answer_of in_force (lent_answer.Files listed) = FilesAre (files_of listed)
 answer_of in_force (lent_answer.Foreseen foreseen) = ForeseenIs (foreseen_of in_force foreseen)
@@ -131,10 +130,6 @@ revision_asked history file None = newest_of history file
 abbrev pub text_of : Revision → FileText
 text_of r = record { rev = r.rev; author = r.author; approver = r.approver; profile = r.profile; body = r.body }
 
--- the text of a proposal, with all that is told of it
-abbrev pub proposed : Pending → ProposalText
-proposed p = record { base = p.base; author = p.author; body = p.body }
-
 -- the answer that a revision is, or that there is none
 abbrev pub text_answer : Option Revision → Answer
 text_answer (Some r) = TextIs (text_of r)
@@ -147,7 +142,7 @@ revisions_answer (first ∷ others) = RevisionsAre (first ∷ others)
 
 -- the answer that a proposal is, or that there is none
 abbrev pub proposal_answer : Option Pending → Answer
-proposal_answer (Some p) = ProposalIs (proposed p)
+proposal_answer (Some p) = ProposalIs p
 proposal_answer None = NoRevision
 
 -- these are the files of how files stand
@@ -203,7 +198,8 @@ AnswersByHistory history Site answer = IsSite (newest_of history) answer
 AnswersByHistory history (ForeseeSite file text) answer = ForeseesSite (newest_of history) file text answer
 AnswersByHistory history (ForeseeProposedSite file) answer = ForeseesProposedSite (newest_of history) file ((standing_of history).proposals file) answer
 
--- a question takes statements: one for the text of a numbered revision, and one for a list of revisions
+-- a question takes statements: the text of a numbered revision and the list of revisions take two each, for what was
+-- stored and for who approved it, and the second is not made if the first is refused; any other question takes none
 abbrev pub takes_statements : Question → Bool
 takes_statements (Text file (Some rev)) = true
 takes_statements (OfFile file of_file.Revisions) = true

@@ -21,8 +21,8 @@ use desk_who::who;
 use sqlite::Alter;
 use std::alloc::{AllocError, Global};
 
-/// Makes the statements that a question takes: one or two for the text of a numbered revision and for the list of revisions, and
-/// none for any other.
+/// Makes the statements that a question takes: two for the text of a numbered revision and for the list of revisions,
+/// of which the second is not made if the first is refused; and none for any other.
 pub fn look_up<S: Alter + Drop, V: PolicyView + Drop>(
     alloc: Global,
     desk: &mut Desk<S, V>,
@@ -97,7 +97,7 @@ fn answer_kept<'a, S: Alter + Drop, V: PolicyView + Drop>(
             Some(_) => unreachable!(),
         },
         Question::OfFile(name, what) => match what {
-            FileQuestion::Proposal => proposal_answer(alloc, desk, name),
+            FileQuestion::Proposal => Ok(proposal_answer(desk, name)),
             // This takes statements.
             FileQuestion::Revisions => unreachable!(),
         },

@@ -3,7 +3,7 @@
 use crate::files::ListedFiles;
 use crate::foreseeing::Foreseen;
 use crate::sites::WholeSite;
-use desk_core::Refusal;
+use desk_core::{Proposal, Refusal};
 use desk_exports::Profile;
 use desk_policy::{Policy, Shown, Verdict};
 use desk_store::Signature;
@@ -78,7 +78,7 @@ pub enum Answer<'a, V> {
     Text(FileText),
     /// At least one revision, by number.
     Revisions(Sequence<Signature>),
-    Proposal(ProposalText),
+    Proposal(&'a Proposal),
     /// There is no such file, revision or proposal.
     NoRevision,
     Files(ListedFiles<'a>),
@@ -96,13 +96,5 @@ pub struct FileText {
     pub author: Text,
     pub approver: Option<Text>,
     pub profile: Profile,
-    pub body: Text,
-}
-
-/// The proposal of a file: the number of the revision that it follows, who proposes it, and the text.
-#[derive(Drop)]
-pub struct ProposalText {
-    pub base: u32,
-    pub author: Text,
     pub body: Text,
 }

@@ -12,8 +12,10 @@ use desk_store::{DeskError, MEMORY_NUMBER, SCHEMA_NUMBER, STORE_NUMBER};
 pub enum Refused {
     /// By the rules of edits, or by the fault of a site.
     Edit(Refusal),
-    /// There is no such file or revision.
+    /// There is no such file, revision or proposal.
     NoRevision,
+    /// The proposal of the file is another than the one that is approved.
+    OtherProposal,
     /// The database cannot be opened, or a statement was refused.
     Store,
     /// The database is not one of this project.
@@ -37,13 +39,14 @@ impl Refused {
         }
     }
 
-    /// Returns the number of the refusal: 1 to 9 of an edit, 111, or that of the error of a desk.
+    /// Returns the number of the refusal: 1 to 9 of an edit, 111, 112, or that of the error of a desk.
     pub fn number(&self) -> u32
         ensures { result ≡ refused_number self.now }
     {
         match self {
             Refused::Edit(refusal) => refusal.number(),
             Refused::NoRevision => 111,
+            Refused::OtherProposal => 112,
             Refused::Store => STORE_NUMBER,
             Refused::Schema => SCHEMA_NUMBER,
             Refused::Memory => MEMORY_NUMBER,
@@ -57,6 +60,7 @@ impl Refused {
         match self {
             Refused::Edit(refusal) => refusal.name(),
             Refused::NoRevision => "NoRevision",
+            Refused::OtherProposal => "OtherProposal",
             Refused::Store => "Store",
             Refused::Schema => "Schema",
             Refused::Memory => "Memory",

@@ -8,8 +8,8 @@ ghost use Rattle.desk_service.specs.Questions as spec;
 ghost use Rattle.desk_service.specs.declared.questions.FileQuestion.TheVariants as of_file;
 ghost use Rattle.desk_service.specs.Questions.{AnswersByHistory, IsLookedUp, IsReady, OnlyLooks, answer_of};
 
-use crate::questions::{Answer, FileText, Looked, ProposalText};
-use desk_core::{Head, Proposal};
+use crate::questions::{Answer, FileText, Looked};
+use desk_core::Head;
 use desk_policy::PolicyView;
 use desk_store::{Desk, DeskError};
 use desk_text::Text;
@@ -102,30 +102,16 @@ pub(crate) fn name_in(alloc: Global, name: &Option<Text>) -> Result<Option<Text>
     }
 }
 
-/// Finds the proposal of a file. This takes no statement.
+/// Lends the proposal of a file. This takes no statement.
 pub(crate) fn proposal_answer<'a, S: Alter + Drop, V: PolicyView + Drop>(
-    alloc: Global,
     desk: &'a Desk<S, V>,
     name: &str,
-) -> Result<Answer<'a, V>, AllocError>
+) -> Answer<'a, V>
     ensures { (history pending : History) → StandsAt S.Store desk.now history pending
-        → IfOk result (λ answer. AnswersByHistory history (spec.OfFile name.now of_file.Proposal) (answer_of V.in_force answer)) }
+        → AnswersByHistory history (spec.OfFile name.now of_file.Proposal) (answer_of V.in_force result) }
 {
     match desk.proposal(name) {
-        Some(proposal) => Ok(Answer::Proposal(proposed(alloc, proposal)?)),
-        None => Ok(Answer::NoRevision),
+        Some(proposal) => Answer::Proposal(proposal),
+        None => Answer::NoRevision,
     }
-}
-
-/// Copies the text of a proposal.
-fn proposed(alloc: Global, proposal: &Proposal) -> Result<ProposalText, AllocError>
-    ensures { IfOk result (λ text. text ≡ spec.proposed proposal.now) }
-{
-    let author = Text::copy(alloc, proposal.author.as_str())?;
-    let body = Text::copy(alloc, proposal.body.as_str())?;
-    Ok(ProposalText {
-        base: proposal.base,
-        author,
-        body,
-    })
 }

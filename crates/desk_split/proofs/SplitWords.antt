@@ -324,9 +324,6 @@ module _ (text : Bytes) where
   parts_read : AllByRecursion IsRead (physical_lines text)
   parts_read = lines_read 0 (slice_split is_feed text) (parts_clean text)
 
-  all_lines : List LogicalLine
-  all_lines = numbered 1 (groups (physical_lines text))
-
   all_read : AllByRecursion AreRead (numbered 1 (groups (physical_lines text)))
   all_read = numbered_read 1 (groups (physical_lines text)) (groups_read (physical_lines text) parts_read)
 

@@ -18,7 +18,6 @@ use Rattle.desk_core.specs.Site.{IsConsistent, site_in}
 use Rattle.desk_core.specs.Standing.{Standing, with_entry}
 use Rattle.desk_core.specs.State.{PutsEntry, again, standing}
 use Rattle.desk_core.specs.Views.{Kept, Ready}
-use Rattle.desk_core.specs.declared.edit.Refusal.{Refusal}
 use Rattle.desk_core.specs.declared.entry.Entry.{Entry}
 use Rattle.desk_core.specs.declared.entry.Entry.TheVariants as entry
 use Rattle.desk_core.specs.declared.judging.Case.{Case}
@@ -129,11 +128,6 @@ module _ {V : Type 0} (s : State) (state : Kept V) (e : Edit) (sound : IsConsist
   edited_already rev false h =
       edited_same (Ok (record { rev = rev; already = true; proposed = false })) h (again_number (standing state) e rev false (first_case (standing state) e) h) (λ is. cc) (λ none. absurd (let e = none in cc)) refl refl
       (λ history pending stands. steps s state e (Some (Already rev)) history pending (standing state) stands.standing_is h (same_history s state history pending stands))
-
-  pub edited_refused : (refusal : Refusal) → Answers (standing state) e (Refused refusal) → IsEdited s s state state e (Err (error.Refused refusal))
-  edited_refused refusal h =
-      edited_same (Err (error.Refused refusal)) h tt (λ is. cc) (λ none. absurd (let e = none in cc)) refl refl
-      (λ history pending stands. steps s state e (Some (Refused refusal)) history pending (standing state) stands.standing_is h (same_history s state history pending stands))
 
   pub edited_memory : first_case (standing state) e ≡ None → IsEdited s s state state e (Err error.Memory)
   edited_memory h =

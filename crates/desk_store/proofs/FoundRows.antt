@@ -21,7 +21,7 @@ use Rattle.desk_core.specs.Head.{Revision}
 use Rattle.desk_core.specs.History.{revisions_of}
 use Rattle.desk_core.specs.Views.{Kept}
 use Rattle.desk_core.specs.declared.entry.Entry.{Entry}
-use Rattle.desk_store.specs.Desk.{IsDesk, Stands, Stays, revision_at, stored_of}
+use Rattle.desk_store.specs.Desk.{IsDesk, Stands, revision_at, stored_of}
 use Rattle.desk_store.specs.History.{Holds, approval_of, revisions_in, row_of}
 use Rattle.desk_store.specs.Rows.{Finds, Says, SaysWho}
 use Rattle.desk_store.specs.Looks.{ChangesNothing, approver_in, approver_of, are_equal, author_profile_and_text, is_at, is_of, revision_in}
@@ -179,9 +179,6 @@ module _ {V : Type 0} (old new : State) (kept : Kept V) (look : ChangesNothing o
     tables = λ live. subst (λ (db : Database). Holds db history) (sym (look.leaves.same clean live)) (stands.tables (look.opened clean live));
     leaves = λ trees may. elim (look.leaves.crash.crash clean trees may) [ inl as_before ↦ stands.leaves trees as_before | inr never ↦ absurd never ];
   }
-
-  pub stays_still : Stays old new kept kept
-  stays_still = record { state = refl; disk = look.leaves.crash.clean; stands = stands_still }
 
   pub desk_still : (HasCleanDisk old → IsDesk old kept) → HasCleanDisk new → IsDesk new kept
   desk_still desk clean =

@@ -3,7 +3,7 @@ use Rattle.std.proofs.Common.{◌≡◌, ◌∙◌, inl, inr, sym, ap, subst, re
 use Rattle.std.specs.Option.{option_map_or}
 use Rattle.std.specs.Prelude.{Contains, slice_get}
 use Rattle.std.proofs.lemmas.List.{map-append, map-set}
-use Rattle.std.proofs.lemmas.List.Elements.{All-contains, All-from_recursion, All-push, All-set, Contains-append_left, Contains-push}
+use Rattle.std.proofs.lemmas.List.Elements.{All-contains, All-push, All-set, Contains-append_left, Contains-push}
 use Rattle.sqlite.specs.Order.{Row}
 use Rattle.desk_core.specs.Head.{Revision}
 use Rattle.desk_store.specs.Desk.{IsStorable}
@@ -31,10 +31,6 @@ set_alike : {A B : Type 0} (f : A → B) (xs : List A) (place : ℕ) (x y : A) �
 set_alike f [] place x y is same = refl
 set_alike f (z ∷ zs) zero x y is same = let here : z ≡ x = cc in ap (λ v. v ∷ map f zs) (same ∙ ap f (sym here))
 set_alike f (z ∷ zs) (suc place) x y is same = ap (λ vs. f z ∷ vs) (set_alike f zs place x y is same)
-
--- nothing is gathered yet
-pub none_kept : AreKept [] []
-none_kept = record { both = []; whole = refl; light = refl; each = All-from_recursion (IsKept []) [] tt }
 
 still_kept : (revisions more : List Revision) (one : Revision × Revision) → IsKept revisions one → IsKept (revisions ++ more) one
 still_kept revisions more one (inl whole) = inl whole
@@ -154,7 +150,3 @@ pub no_fault : (rows : List Row) (kept : List Revision) (fault : Option Ungather
 no_fault rows kept None none of = of
 no_fault rows kept (Some Foreign) none of = absurd (cc)
 no_fault rows kept (Some Memory) none of = absurd (cc)
-
--- no row
-pub nothing_gathered : AreOf [] []
-nothing_gathered = record { revisions = []; of_rows = refl; unapproved = All-from_recursion IsUnapproved [] tt; storable = All-from_recursion IsStorable [] tt; are_kept = none_kept }

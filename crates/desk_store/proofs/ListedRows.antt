@@ -1,5 +1,5 @@
 -- What the rows of a file's revisions and of their approvals tell, in ascending order of the numbers, is told by its revisions.
-use Rattle.std.proofs.Common.{◌≡◌, ◌∙◌, sym, ap, subst, refl, ℕ, suc, ◌+◌, ◌<◌, ◌≤◌, ◌==◌, Bool, true, List, [], ◌∷◌, ◌++◌, Option, Some, None, Result, Ok, Err, IfOk, IsPermutation, codes, filter, filter_map, get_or, length, map, option_map, take, arith}
+use Rattle.std.proofs.Common.{◌≡◌, ◌∙◌, sym, ap, subst, refl, ℕ, suc, ◌+◌, ◌<◌, ◌≤◌, ◌==◌, true, List, [], ◌∷◌, ◌++◌, Option, Some, None, Result, Ok, Err, IfOk, IsPermutation, codes, filter, filter_map, get_or, length, map, option_map, take, arith}
 use Rattle.std.specs.Prelude.{Contains}
 use Rattle.std.specs.List.{AllByRecursion, range_with_len}
 use Rattle.std.specs.List.Sorted.{IsNonDecreasingBy}
@@ -128,9 +128,6 @@ module _ (db : Database) (history : List Entry) (rows : List Row) (holds : Holds
 
     abbrev whole : List Row
     whole = rows_of db (codes "approval")
-
-    own : Revision → Bool
-    own r = bytes_eq r.file file
 
     -- who approved a revision is among them
     told : (r : Revision) → Contains mine r → (a : List ℕ) → r.approver ≡ Some a → Contains approved (r.rev, a)

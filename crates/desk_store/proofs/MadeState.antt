@@ -1,5 +1,5 @@
 -- What making a database comes to, from the look for room to the commit.
-use Rattle.std.proofs.Common.{◌≡◌, ◌∙◌, ap, sym, subst, inl, inr, [], IsTrue, Ok, Err, Result, false, IsPermutation, arith, codes, map}
+use Rattle.std.proofs.Common.{◌≡◌, ◌∙◌, ap, sym, subst, inl, inr, [], IsTrue, Ok, Err, Result, IsPermutation, arith, codes, map}
 use Rattle.std.proofs.lemmas.List.Sorted.{IsPermutation-sym}
 use Rattle.sqlite.specs.Effect.{Database}
 use Rattle.sqlite.specs.State.{HasCleanDisk, State, Survives}
@@ -10,7 +10,7 @@ use Rattle.desk_core.specs.Views.{Kept}
 use Rattle.desk_core.specs.History.{newest_of, pending_in, standing_of}
 use Rattle.desk_core.specs.Standing.{Standing, proposals_in}
 use Rattle.desk_core.specs.State.{standing}
-use Rattle.desk_store.specs.Create.{HasRoom, IsCreated, IsFirstState, IsMade, IsOfMaking, IsOfRoom, JudgesSite, LooksForRoom, Makes, MakesFirst, MakesTables, MayMake, RefusesRoom, RefusesSite, RefusesToCreate, StoresAll, first_history, first_revisions, has_one}
+use Rattle.desk_store.specs.Create.{HasRoom, IsCreated, IsFirstState, IsMade, IsOfMaking, LooksForRoom, Makes, MakesFirst, MakesTables, StoresAll, first_history, first_revisions}
 use Rattle.desk_store.specs.Desk.{IsDesk, IsSiteHistory}
 use Rattle.desk_store.specs.History.{proposed_row}
 use Rattle.desk_store.specs.Tables.{LeavesCommit, rows_of}
@@ -19,60 +19,6 @@ use Rattle.desk_store.specs.declared.error.CreateError.TheVariants as refused
 use Rattle.desk_store.proofs.Migrating.{keyed_if_empty}
 use Rattle.desk_store.proofs.Revisions.{none_of_revised}
 use Rattle.desk_store.proofs.RowsRead.{none_left}
-
-by_room : (old : State) (texts : SiteTexts) (e : CreateError) → RefusesRoom old.committed.schema e → RefusesToCreate old.committed.schema texts e
-by_room old texts refused.Schema h = h
-by_room old texts (refused.Store fault) h = h
-by_room old texts refused.Memory h = tt
-by_room old texts (refused.TooLarge file) h = absurd h
-by_room old texts (refused.Fault fault) h = absurd h
-
--- a refusal that is of no commit
-early : (V : Type 0) (old new : State) (texts : SiteTexts) (e : CreateError) → Survives old new (λ _. ⊥) → Survives old new (MayMake {T = Kept V} old texts (Err e))
-early V old new texts e s = record { clean = s.clean; shield = s.shield; counts = s.counts; limit = s.limit; closes = s.closes; crash = λ clean trees may. elim (s.crash clean trees may) [ inl before ↦ inl before | inr none ↦ absurd none ] }
-
-room_judged : (V : Type 0) (texts : SiteTexts) (e : CreateError) → IsOfRoom e → JudgesSite {T = Kept V} texts (Err e)
-room_judged V texts refused.Schema h = tt
-room_judged V texts (refused.Store fault) h = h
-room_judged V texts refused.Memory h = tt
-room_judged V texts (refused.TooLarge file) h = absurd h
-room_judged V texts (refused.Fault fault) h = absurd h
-
-site_judged : (V : Type 0) (texts : SiteTexts) (e : CreateError) → RefusesSite texts e → JudgesSite {T = Kept V} texts (Err e)
-site_judged V texts refused.Schema h = tt
-site_judged V texts (refused.Store fault) h = absurd h
-site_judged V texts refused.Memory h = tt
-site_judged V texts (refused.TooLarge file) h = h
-site_judged V texts (refused.Fault fault) h = h
-
-pub no_room_made : {T : Type 0} (V : Type 0) (old new : State) (texts : SiteTexts) (e : CreateError) → LooksForRoom {T = T} old new (Err e) → IsCreated {V = V} old new texts (Err e)
-no_room_made V old new texts e h = record {
-  judged = room_judged V texts e h.kind;
-  heads = tt;
-  made = λ clean. tt;
-  refused = λ clean. by_room old texts e (h.refused clean);
-  unchanged = λ clean live. h.leaves.same clean live;
-  crash = early V old new texts e h.leaves.crash;
-  mode = h.mode;
-}
-
-by_site : (old : State) (texts : SiteTexts) (e : CreateError) → has_one old.committed.schema ≡ false → RefusesSite texts e → RefusesToCreate old.committed.schema texts e
-by_site old texts refused.Schema none h = absurd h
-by_site old texts (refused.Store fault) none h = absurd h
-by_site old texts refused.Memory none h = tt
-by_site old texts (refused.TooLarge file) none h = (none, h)
-by_site old texts (refused.Fault fault) none h = (none, h)
-
-pub site_refused : {T : Type 0} (V : Type 0) (old new : State) (texts : SiteTexts) (x : T) (e : CreateError) → LooksForRoom old new (Ok x) → RefusesSite texts e → IsCreated {V = V} old new texts (Err e)
-site_refused V old new texts x e h says = record {
-  judged = site_judged V texts e says;
-  heads = tt;
-  made = λ clean. tt;
-  refused = λ clean. by_site old texts e (h.found clean).none says;
-  unchanged = λ clean live. h.leaves.same clean live;
-  crash = early V old new texts e h.leaves.crash;
-  mode = h.mode;
-}
 
 module _ (old mid new : State) (texts : SiteTexts) (clean_if_open : IsTrue mid.is_open → HasCleanDisk mid) where
   room_of : {T : Type 0} (x : T) → LooksForRoom old mid (Ok x) → IsTrue mid.is_open → HasRoom mid.now.schema

@@ -123,10 +123,6 @@ module _ {Row : Type 0} (by_lines : List LogicalLine → LogicalLine → Result 
       (ap (λ (a : Result (Option Row) TableRule). cons_option (fault_at line.number a) (filter_map fault_of (answers by_lines (before ++ line ∷ []) more))) (sym told) ∙ good)
       ∙ ap (λ (a : Result (Option Row) TableRule). rows ++ cons_option (answered_value a) others) (sym told)
 
-first_none : (faults : List TableFault) → slice_get faults 0 ≡ None → faults ≡ []
-first_none [] h = refl
-first_none (fault ∷ more) h = absurd (cc)
-
 refused_missing : (rows : List Custodian) (found : Option Custodian) (fault : TableFault) → (custodians.unless_missing rows found ≡ Err fault) ↔ IsFirstOf fault (custodians.site_faults found)
 refused_missing rows None fault = (λ h. let same : record { line = 0; rule = variant.Custodian } ≡ fault = cc in ap Some same, λ h. let same : record { line = 0; rule = variant.Custodian } ≡ fault = cc in ap Err same)
 refused_missing rows (Some site) fault = (λ h. absurd (cc), λ h. absurd (cc))

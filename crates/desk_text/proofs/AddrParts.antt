@@ -69,9 +69,6 @@ pub record SoFar (parts : List (List ℕ)) (k : ℕ) (number : Result ℕ AddrFa
   pub is : k ≤ 4 → number ≡ read_parts (take k parts)
   pub small : k ≤ 4 → IfOk number (λ n. n < 256 ^ k)
 
-pub SoFar-none : (parts : List (List ℕ)) → SoFar parts 0 (Ok 0)
-SoFar-none parts = record { is = λ _. refl; small = λ _. omega arith }
-
 pub SoFar-more : (parts : List (List ℕ)) (k : ℕ) (part : List ℕ) (number octet new : Result ℕ AddrFault) → (k < length parts) × (part ≡ get_or parts k part) → SoFar parts k number
     → octet ≡ read_octet part → IfOk octet (λ v. v < 256) → new ≡ with_octet number octet → SoFar parts (k + 1) new
 SoFar-more parts k part number octet new at so_far is byte e = record {

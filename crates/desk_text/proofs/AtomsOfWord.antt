@@ -38,9 +38,6 @@ IsAtomLen-escaped (c ∷ d ∷ cs) n h e m =
     let pair : IsAtomLen (92 ∷ d ∷ cs) 2 = record { atom = Single (Escaped d); reads = refl; written = refl; closed = refl; joined = λ _. refl; some = omega arith; within = omega arith } in
     subst (λ k. IsAtomLen (c ∷ d ∷ cs) k) two (subst (λ x. IsAtomLen (x ∷ d ∷ cs) 2) (sym e) pair)
 
-pub IsRun-none : (text : List ℕ) → IsRun text 0
-IsRun-none text = record { run = []; reads = refl; written = refl; each = tt; within = omega arith }
-
 of_word-push : (run : List Atom) (a : Atom) → AllByRecursion IsOfWord run → IsOfWord a → AllByRecursion IsOfWord (run ++ a ∷ [])
 of_word-push [] a h w = (w, tt)
 of_word-push (r ∷ run) a h w = (h.0, of_word-push run a h.1 w)

@@ -8,7 +8,7 @@ use Rattle.std.proofs.lemmas.Bool.{and_from, and_parts, cases_Bool, false_from_n
 use Rattle.std.proofs.lemmas.List.{get_or-map, length-map}
 use Rattle.std.proofs.lemmas.List.Elements.{All-from_recursion}
 use Rattle.desk_text.specs.Address.{number_of}
-use Rattle.desk_who.specs.PrivateBeside.{AreRanges, held_value}
+use Rattle.desk_who.specs.PrivateMostlySame.{AreRanges, held_value}
 use Rattle.desk_who.specs.Runs.{Run, holds, run_value}
 use Rattle.desk_who.specs.declared.runs.Run.{Run as KeptRun}
 

@@ -7,8 +7,8 @@ use Rattle.std.proofs.lemmas.Bool.{and_parts, cases_Bool, eqb-true, false_from_n
 use Rattle.std.proofs.lemmas.List.Folds.{list_any-append}
 use Rattle.desk_text.specs.AddrSet.{is_among, sorted_set}
 use Rattle.desk_text.specs.Laws.{IsSetOf, SortedSetsAreUnique}
-use Rattle.desk_who.specs.Beside.{GoTogether}
-use Rattle.desk_who.specs.PrivateBeside.{AreRanges, bounds_of, held_value}
+use Rattle.desk_who.specs.MostlySame.{GoTogether}
+use Rattle.desk_who.specs.PrivateMostlySame.{AreRanges, bounds_of, held_value}
 use Rattle.desk_who.specs.PrivateStarts.{has_one_before, kept}
 use Rattle.desk_who.specs.Runs.{AreRunsWithValue, AreStartsOf, HasValue, Run, holds, is_asked, run_value, those_with_value}
 use Rattle.desk_who.specs.declared.runs.Run.{Run as KeptRun}

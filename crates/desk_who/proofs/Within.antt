@@ -12,7 +12,7 @@ use Rattle.desk_exports.specs.declared.entry.Clients.TheVariants.{Hosts, Net, Ne
 use Rattle.desk_policy.specs.Keys.{HasBlock}
 use Rattle.desk_policy.specs.Weights.{name_weight, weight_by, weight_of}
 use Rattle.desk_policy.specs.declared.row.Row.{Row}
-use Rattle.desk_who.specs.Beside.{AreStartsWithin}
+use Rattle.desk_who.specs.MostlySame.{AreStartsWithin}
 use Rattle.desk_who.specs.PrivateStarts.{is_between, starts_by, starts_of, within, within_by}
 use Rattle.desk_who.proofs.Steady.{absent, neither, not_here, not_there, steady_among, zero_not_by}
 

@@ -5,5 +5,5 @@ pub mod Who
 pub mod WhoPrints
 pub mod Searching
 pub mod PrivateSearching
-pub mod Beside
-pub mod PrivateBeside
+pub mod MostlySame
+pub mod PrivateMostlySame

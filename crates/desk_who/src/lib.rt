@@ -6,19 +6,19 @@
 //! ```
 #![tactic(auto)]
 
-pub mod beside;
 pub mod laws;
+pub mod mostly_same;
 pub mod range_prints;
 pub mod ranges;
 pub mod runs;
 pub mod searching;
 pub mod starts;
 
-pub use beside::{found_beside, runs_beside};
 pub use laws::{
     no_run_is_no_value, ranges_tell_verdicts, runs_are_unique, runs_exist, runs_pass_tests,
     runs_tell_values, runs_with_value_are_unique, there_is_one_list, verdicts_are_discrete,
 };
+pub use mostly_same::{found_beside, runs_beside};
 pub use range_prints::{push_range, span_text, who_text};
 pub use ranges::{Range, who};
 pub use runs::{Alike, Run, longest_runs};

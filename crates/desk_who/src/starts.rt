@@ -7,7 +7,7 @@ ghost use Rattle.desk_text.specs.Address.{number_of};
 ghost use Rattle.desk_text.specs.AddrSet.{is_among};
 ghost use Rattle.desk_text.specs.Network.{IsBlock, last_of};
 ghost use Rattle.desk_policy.specs.Keys.{HasBlock};
-ghost use Rattle.desk_who.specs.Beside.{AreStartsWithin};
+ghost use Rattle.desk_who.specs.MostlySame.{AreStartsWithin};
 ghost use Rattle.desk_who.specs.PrivateStarts.{around, is_between, kept, starts_of, within};
 ghost use Rattle.desk_who.specs.Starts.{AreJoined, AreStarts, AreStartsUnder};
 

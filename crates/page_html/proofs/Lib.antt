@@ -1,5 +1,4 @@
 pub mod Rows
-pub mod Whole
 mod Apart
 mod Lists
 mod Made

@@ -1,36 +1,20 @@
--- The words are looked up.
-use Rattle.std.proofs.Common.{◌≡◌, ℕ, Bool, List, Option, Result, codes, subst}
+-- The form is found first.
+use Rattle.std.proofs.Common.{◌≡◌, Bool, Err, Ok, Result, codes, refl, subst}
 use Rattle.std.proofs.lemmas.Result.{err_from_is_err_and}
-use Rattle.clap.specs.Words.{Row, first_of}
 use Rattle.cli_output.specs.declared.failure.Failure.{Failure}
-use Rattle.cli_output.specs.declared.printed.Printed.{Printed}
+use Rattle.cli_expectations.specs.ReportForm.{GivesForm}
+use Rattle.cli_expectations.specs.declared.expectations_file.ReportForm.{ReportForm}
 use Rattle.cli_words.specs.Words.{is_set, rows_in}
-use Rattle.cli_questions.specs.AuditCommand.{AnswersBy, words_in}
 use Rattle.cli_questions.proofs.audit_command.run_audit.Goals as goal
 
--- the answer by the words as they are looked up
-by_words : (rows : List Row) (known : Option (List ℕ)) (result : Result Printed Failure) (db expectations : List ℕ) (json proposal : Bool) (name file : Option (List ℕ))
-    → json ≡ is_set (codes "json") rows → name ≡ first_of (codes "NAME") rows → file ≡ first_of (codes "FILE") rows → proposal ≡ is_set (codes "proposal") rows
-    → AnswersBy (record { db = db; expectations = expectations; json = json; name = name; file = file }) proposal known result
-    → AnswersBy (words_in rows db expectations) (is_set (codes "proposal") rows) known result
-by_words rows known result db expectations json proposal name file json_is name_is file_is proposal_is answers =
-    subst (λ (p : Bool). AnswersBy (words_in rows db expectations) p known result) proposal_is
-    (subst (λ (f : Option (List ℕ)). AnswersBy (record { db = db; expectations = expectations; json = is_set (codes "json") rows; name = first_of (codes "NAME") rows; file = f }) proposal known result) file_is
-    (subst (λ (n : Option (List ℕ)). AnswersBy (record { db = db; expectations = expectations; json = is_set (codes "json") rows; name = n; file = file }) proposal known result) name_is
-    (subst (λ (j : Bool). AnswersBy (record { db = db; expectations = expectations; json = j; name = name; file = file }) proposal known result) json_is answers)))
+-- by what the words say
+given : (json json_is sarif sarif_is : Bool) (result : Result ReportForm Failure) → json ≡ json_is → sarif ≡ sarif_is → GivesForm json sarif result → GivesForm json_is sarif_is result
+given json json_is sarif sarif_is result one other gives = subst (λ (b : Bool). GivesForm json_is b result) other (subst (λ (b : Bool). GivesForm b sarif result) one gives)
 
-pub returns-in_err-db : goal.returns-in_err-db
-returns-in_err-db g c =
+pub returns-in_err-form : goal.returns-in_err-form
+returns-in_err-form g c =
     let p = err_from_is_err_and c.from_residual.result c.from_residual.ensures.1 in
-    rw (p.1, p.2, c.in_err-db.ensures.0) c.in_err-db.ensures.1
-
-pub returns-in_err-expectations : goal.returns-in_err-expectations
-returns-in_err-expectations g c =
-    let p = err_from_is_err_and c.from_residual-in_err-expectations.result c.from_residual-in_err-expectations.ensures.1 in
-    rw (p.1, p.2, c.in_ok-db.ensures, c.in_err-expectations.ensures.0) c.in_err-expectations.ensures.1
+    rw (p.1, p.2) (record { step = Err c.in_err-form.field-0.0; is = given _ _ _ _ _ c.is_set.ensures c.is_set-2.ensures c.in_err-form.ensures; next = refl })
 
 pub returns : goal.returns
-returns g c =
-    rw (c.in_ok-db.ensures, c.in_ok-expectations.ensures)
-    (by_words (rows_in c.args.words.now) (g.I.Read.remaining c.args.input.now) c.audit.result c.in_ok-db.db.now c.in_ok-expectations.expectations.now _ _ _ _
-    c.is_set.ensures c.given.ensures c.given-2.ensures c.is_set-2.ensures c.audit.ensures)
+returns g c = record { step = Ok c.in_ok-form.form; is = given _ _ _ _ _ c.is_set.ensures c.is_set-2.ensures c.in_ok-form.ensures; next = c.audit_in_form.ensures }

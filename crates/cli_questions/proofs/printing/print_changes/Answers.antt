@@ -3,7 +3,7 @@ use Rattle.std.proofs.Common.{◌∙◌, Bool, ap, rules, subst}
 use Rattle.desk_impact.specs.Report.{IsReport}
 use Rattle.desk_policy.specs.Policy.{Content}
 use Rattle.desk_service.specs.Foreseeing.{Foreseen, content_after, foreseen_of}
-use Rattle.cli_output.specs.Shown.{shown_lines}
+use Rattle.cli_output.specs.ShownLines.{shown_lines}
 use Rattle.cli_questions.proofs.printing.print_changes.Goals as goal
 
 pub returns : goal.returns
@@ -12,5 +12,5 @@ returns c =
     record {
       report = c.in_ok-report.report;
       is = subst (λ (all : Bool). IsReport foreseen.before (content_after foreseen) all c.in_ok-report.report) c.prints_all.ensures c.in_ok-report.ensures;
-      prints = record { status_is = search rules; text_is = c.in_ok-text.ensures ∙ ap shown_lines c.as_str-2.ensures.value };
+      prints = record { status_is = search rules; text_is = c.in_ok-text.ensures ∙ ap shown_lines c.as_str.ensures.value };
     }

@@ -1,7 +1,7 @@
 -- Why is printed with the verdict to whom asks, and else alone.
 use Rattle.std.proofs.Common.{Option, subst, sym}
 use Rattle.std.specs.Option.{option_map}
-use Rattle.cli_output.specs.Shown.{shown_lines}
+use Rattle.cli_output.specs.ShownLines.{shown_lines}
 use Rattle.cli_verdict.specs.TryText.{mount_question_of}
 use Rattle.cli_verdict.specs.declared.try_text.MountQuestion.{MountQuestion}
 use Rattle.cli_questions.specs.PrivateAnswering.{TriesToPrintWhy}

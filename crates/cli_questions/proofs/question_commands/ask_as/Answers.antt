@@ -1,7 +1,8 @@
 -- The words are looked up, and parsed from left to right.
-use Rattle.std.proofs.Common.{ℕ, Err, List, Ok, Option, refl, subst}
+use Rattle.std.proofs.Common.{◌∙◌, ℕ, Bool, Err, List, Ok, Option, ap, refl, subst}
 use Rattle.std.proofs.lemmas.Result.{err_from_is_err_and}
-use Rattle.cli_questions.specs.QuestionCommands.{ParsesOwn}
+use Rattle.desk_text.specs.Address.{number_of}
+use Rattle.cli_questions.specs.QuestionCommands.{ParsesOwn, mounting}
 use Rattle.cli_questions.specs.Questions.{Asked, AnswersQuestion}
 use Rattle.cli_questions.proofs.question_commands.ask_as.Goals as goal
 
@@ -37,4 +38,4 @@ returns-in_err-own c =
 
 pub returns : goal.returns
 returns c =
-    rw (c.in_ok-db.ensures, c.in_ok-host.ensures, c.in_ok-dir.ensures) (record { step = Ok c.in_ok-address.address; is = c.in_ok-address.ensures; next = record { step = Ok c.in_ok-path.path; is = c.in_ok-path.ensures; next = record { step = Ok c.in_ok-own.own; is = subst (λ (word : Option (List ℕ)). ParsesOwn word (Ok c.in_ok-own.own)) c.given.ensures c.in_ok-own.ensures; next = subst (λ (asked : Asked). AnswersQuestion c.in_ok-db.db.now asked c.answer_question.result) c.mounting.ensures c.answer_question.ensures } } })
+    rw (c.in_ok-db.ensures, c.in_ok-host.ensures, c.in_ok-dir.ensures) (record { step = Ok c.in_ok-address.address; is = c.in_ok-address.ensures; next = record { step = Ok c.in_ok-path.path; is = c.in_ok-path.ensures; next = record { step = Ok c.in_ok-own.own; is = subst (λ (word : Option (List ℕ)). ParsesOwn word (Ok c.in_ok-own.own)) c.given.ensures c.in_ok-own.ensures; next = subst (λ (asked : Asked). AnswersQuestion c.in_ok-db.db.now asked c.answer_question.result) (c.mounting.ensures ∙ ap (λ (json : Bool). mounting (record { address = number_of c.in_ok-address.address; path = c.in_ok-path.path; own = c.in_ok-own.own; asking = c.args.asking; json = json })) c.is_set-json.ensures) c.answer_question.ensures } } })

@@ -17,5 +17,5 @@ returns g c =
     record {
       step = Ok (string_bytes c.in_ok-text.text);
       is = c.in_ok-text.ensures.text;
-      next = subst (λ (asked : Asked). AnswersQuestion c.args.db.now asked c.answer_question.result) (c.changes.ensures ∙ ap (λ (text : List ℕ). changes (Foresee c.args.name.now text) c.args.all) c.as_str.ensures.value) c.answer_question.ensures;
+      next = subst (λ (asked : Asked). AnswersQuestion c.args.db.now asked c.answer_question.result) (c.changes.ensures ∙ ap (λ (text : List ℕ). changes (Foresee c.args.name.now text) c.args.all c.args.json) c.as_str.ensures.value) c.answer_question.ensures;
     }

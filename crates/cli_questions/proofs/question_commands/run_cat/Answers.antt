@@ -1,7 +1,8 @@
 -- The words are looked up, and parsed from left to right.
-use Rattle.std.proofs.Common.{ℕ, Err, List, Ok, Option, refl, subst}
+use Rattle.std.proofs.Common.{◌∙◌, ℕ, Err, List, Ok, Option, ap, refl, subst}
 use Rattle.std.proofs.lemmas.Result.{err_from_is_err_and}
-use Rattle.cli_questions.specs.QuestionCommands.{ParsesRevision}
+use Rattle.desk_service.specs.Questions.{Text}
+use Rattle.cli_questions.specs.QuestionCommands.{ParsesRevision, plainly}
 use Rattle.cli_questions.specs.Questions.{Asked, AnswersQuestion}
 use Rattle.cli_questions.proofs.question_commands.run_cat.Goals as goal
 
@@ -22,4 +23,4 @@ returns-in_err-rev c =
 
 pub returns : goal.returns
 returns c =
-    rw (c.in_ok-db.ensures, c.in_ok-name.ensures) (record { step = Ok c.in_ok-rev.rev; is = subst (λ (word : Option (List ℕ)). ParsesRevision word (Ok c.in_ok-rev.rev)) c.given.ensures c.in_ok-rev.ensures; next = (subst (λ (asked : Asked). AnswersQuestion c.in_ok-db.db.now asked c.answer_question.result) c.plainly.ensures c.answer_question.ensures) })
+    rw (c.in_ok-db.ensures, c.in_ok-name.ensures) (record { step = Ok c.in_ok-rev.rev; is = subst (λ (word : Option (List ℕ)). ParsesRevision word (Ok c.in_ok-rev.rev)) c.given.ensures c.in_ok-rev.ensures; next = (subst (λ (asked : Asked). AnswersQuestion c.in_ok-db.db.now asked c.answer_question.result) (c.plainly.ensures ∙ ap (plainly (Text c.in_ok-name.name.now c.in_ok-rev.rev)) c.is_set-json.ensures) c.answer_question.ensures) })

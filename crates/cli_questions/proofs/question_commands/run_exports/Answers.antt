@@ -1,6 +1,7 @@
 -- The words are looked up, and parsed from left to right.
-use Rattle.std.proofs.Common.{◌∙◌, ap, subst}
+use Rattle.std.proofs.Common.{◌∙◌, Bool, ap, codes, subst}
 use Rattle.std.proofs.lemmas.Result.{err_from_is_err_and}
+use Rattle.cli_words.specs.Words.{is_set, rows_in}
 use Rattle.cli_questions.specs.QuestionCommands.{of_exports}
 use Rattle.cli_questions.specs.Questions.{Asked, AnswersQuestion}
 use Rattle.cli_questions.proofs.question_commands.run_exports.Goals as goal
@@ -12,4 +13,4 @@ returns-in_err-db c =
 
 pub returns : goal.returns
 returns c =
-    rw (c.in_ok-db.ensures) (subst (λ (asked : Asked). AnswersQuestion c.in_ok-db.db.now asked c.answer_question.result) (c.of_exports.ensures ∙ ap of_exports c.is_set-terms.ensures) c.answer_question.ensures)
+    rw (c.in_ok-db.ensures) (subst (λ (asked : Asked). AnswersQuestion c.in_ok-db.db.now asked c.answer_question.result) (c.of_exports.ensures ∙ ap (λ (terms : Bool). of_exports terms c.is_set-json.result) c.is_set-terms.ensures ∙ ap (of_exports (is_set (codes "terms") (rows_in c.args.words.now))) c.is_set-json.ensures) c.answer_question.ensures)

@@ -1,6 +1,8 @@
 -- The words are looked up, and parsed from left to right.
-use Rattle.std.proofs.Common.{subst}
+use Rattle.std.proofs.Common.{◌∙◌, ap, subst}
 use Rattle.std.proofs.lemmas.Result.{err_from_is_err_and}
+use Rattle.desk_service.specs.Questions.{Files}
+use Rattle.cli_questions.specs.QuestionCommands.{plainly}
 use Rattle.cli_questions.specs.Questions.{Asked, AnswersQuestion}
 use Rattle.cli_questions.proofs.question_commands.run_files.Goals as goal
 
@@ -11,4 +13,4 @@ returns-in_err-db c =
 
 pub returns : goal.returns
 returns c =
-    rw (c.in_ok-db.ensures) (subst (λ (asked : Asked). AnswersQuestion c.in_ok-db.db.now asked c.answer_question.result) c.plainly.ensures c.answer_question.ensures)
+    rw (c.in_ok-db.ensures) (subst (λ (asked : Asked). AnswersQuestion c.in_ok-db.db.now asked c.answer_question.result) (c.plainly.ensures ∙ ap (plainly Files) c.is_set-json.ensures) c.answer_question.ensures)

@@ -1,6 +1,9 @@
 -- The words are looked up, and parsed from left to right.
-use Rattle.std.proofs.Common.{Err, Ok, refl, subst}
+use Rattle.std.proofs.Common.{◌∙◌, Err, Ok, ap, refl, subst}
 use Rattle.std.proofs.lemmas.Result.{err_from_is_err_and}
+use Rattle.desk_text.specs.Address.{number_of}
+use Rattle.desk_service.specs.Questions.{Listing}
+use Rattle.cli_questions.specs.QuestionCommands.{plainly}
 use Rattle.cli_questions.specs.Questions.{Asked, AnswersQuestion}
 use Rattle.cli_questions.proofs.question_commands.run_show.Goals as goal
 
@@ -21,4 +24,4 @@ returns-in_err-address c =
 
 pub returns : goal.returns
 returns c =
-    rw (c.in_ok-db.ensures, c.in_ok-host.ensures) (record { step = Ok c.in_ok-address.address; is = c.in_ok-address.ensures; next = (subst (λ (asked : Asked). AnswersQuestion c.in_ok-db.db.now asked c.answer_question.result) c.plainly.ensures c.answer_question.ensures) })
+    rw (c.in_ok-db.ensures, c.in_ok-host.ensures) (record { step = Ok c.in_ok-address.address; is = c.in_ok-address.ensures; next = (subst (λ (asked : Asked). AnswersQuestion c.in_ok-db.db.now asked c.answer_question.result) (c.plainly.ensures ∙ ap (plainly (Listing (number_of c.in_ok-address.address))) c.is_set-json.ensures) c.answer_question.ensures) })

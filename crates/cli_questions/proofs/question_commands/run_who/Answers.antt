@@ -1,6 +1,7 @@
 -- The words are looked up, and parsed from left to right.
-use Rattle.std.proofs.Common.{◌∙◌, Bool, Err, Ok, ap, refl, subst}
+use Rattle.std.proofs.Common.{◌∙◌, Bool, Err, Ok, ap, codes, refl, subst}
 use Rattle.std.proofs.lemmas.Result.{err_from_is_err_and}
+use Rattle.cli_words.specs.Words.{is_set, rows_in}
 use Rattle.cli_questions.specs.QuestionCommands.{of_site}
 use Rattle.cli_questions.specs.Questions.{Asked, AnswersQuestion, Ranges}
 use Rattle.cli_questions.proofs.question_commands.run_who.Goals as goal
@@ -22,4 +23,4 @@ returns-in_err-path c =
 
 pub returns : goal.returns
 returns c =
-    rw (c.in_ok-db.ensures, c.in_ok-dir.ensures) (record { step = Ok c.in_ok-path.path; is = c.in_ok-path.ensures; next = (subst (λ (asked : Asked). AnswersQuestion c.in_ok-db.db.now asked c.answer_question.result) (c.of_site.ensures ∙ ap (λ (mountd : Bool). of_site (Ranges c.in_ok-path.path mountd)) c.is_set-mountd.ensures) c.answer_question.ensures) })
+    rw (c.in_ok-db.ensures, c.in_ok-dir.ensures) (record { step = Ok c.in_ok-path.path; is = c.in_ok-path.ensures; next = (subst (λ (asked : Asked). AnswersQuestion c.in_ok-db.db.now asked c.answer_question.result) (c.of_site.ensures ∙ ap (λ (mountd : Bool). of_site (Ranges c.in_ok-path.path mountd) c.is_set-json.result) c.is_set-mountd.ensures ∙ ap (of_site (Ranges c.in_ok-path.path (is_set (codes "mountd") (rows_in c.args.words.now)))) c.is_set-json.ensures) c.answer_question.ensures) })

@@ -1,11 +1,9 @@
--- The path is parsed, the file systems are read, and then the files.
-use Rattle.std.proofs.Common.{◌∙◌, Err, List, Ok, Option, ap, codes, refl, subst, ℕ}
+-- The path is parsed, and then all is read.
+use Rattle.std.proofs.Common.{Bool, codes, Err, Ok, refl, subst}
 use Rattle.std.proofs.lemmas.Result.{err_from_is_err_and}
 use Rattle.cli_words.specs.Words.{is_set, rows_in}
-use Rattle.cli_texts.specs.ClientsCommand.{AnswersFiles}
-use Rattle.cli_texts.specs.TableFiles.{input_count}
-use Rattle.cli_texts.specs.WholeFiles.{whole_files}
-use Rattle.cli_texts.proofs.AskedSystems.{with_fault, with_table, without}
+use Rattle.cli_texts.specs.ClientsCommand.{AnswersPath}
+use Rattle.cli_texts.specs.WholeQuestion.{AnswersWhole}
 use Rattle.cli_texts.proofs.clients_command.answer_subject.Goals as goal
 
 pub returns-in_err-path : goal.returns-in_err-path
@@ -13,37 +11,12 @@ returns-in_err-path g c =
     let p = err_from_is_err_and c.from_residual.result c.from_residual.ensures.1 in
     rw (p.1, p.2) (record { step = Err c.in_err-path.field-0.0; is = c.in_err-path.ensures; next = refl })
 
-pub returns-in_err-systems : goal.returns-in_err-systems
-returns-in_err-systems g c =
-    let p = err_from_is_err_and c.from_residual-in_err-systems.result c.from_residual-in_err-systems.ensures.1 in
-    let rows = rows_in c.args.words.now in
-    let subject = c.args.subject.now in
-    rw (p.1, p.2) (record {
-      step = Ok c.in_ok-path.path;
-      is = c.in_ok-path.ensures;
-      next = without subject rows c.whole_inputs-others.result (input_count (whole_files subject (codes "FILE") rows)) (c.whole_inputs-others.ensures.counted ∙ ap input_count c.whole_files-files.ensures)
-          (g.I.Read.remaining c.args.input.now) (g.I.Read.remaining c.read_systems.new.input) c.read_systems.ensures.left _ c.in_err-systems.field-0.0 c.in_err-systems.ensures.systems;
-    })
-
-pub returns-in-Ok : goal.returns-in-Ok
-returns-in-Ok g c =
-    let rows = rows_in c.args.words.now in
-    let subject = c.args.subject.now in
-    record {
-      step = Ok c.in_ok-path.path;
-      is = c.in_ok-path.ensures;
-      next = with_table subject rows c.whole_inputs-others.result (input_count (whole_files subject (codes "FILE") rows)) (c.whole_inputs-others.ensures.counted ∙ ap input_count c.whole_files-files.ensures)
-          (g.I.Read.remaining c.args.input.now) (g.I.Read.remaining c.read_systems.new.input) c.read_systems.ensures.left _ c.in-Ok.filesystems c.answer_files.result (rw c.in-Ok.is at c.in_ok-systems.ensures.systems)
-          (subst (λ (files : List (List ℕ × Option (List ℕ))). AnswersFiles (is_set (codes "mountd") rows) files (g.I.Read.remaining c.read_systems.new.input) c.in_ok-path.path c.in-Ok.filesystems c.answer_files.result) c.whole_files-files.ensures c.answer_files.ensures);
-    }
-
 pub returns : goal.returns
 returns g c =
     let rows = rows_in c.args.words.now in
-    let subject = c.args.subject.now in
     record {
       step = Ok c.in_ok-path.path;
       is = c.in_ok-path.ensures;
-      next = with_fault subject rows c.whole_inputs-others.result (input_count (whole_files subject (codes "FILE") rows)) (c.whole_inputs-others.ensures.counted ∙ ap input_count c.whole_files-files.ensures)
-          (g.I.Read.remaining c.args.input.now) (g.I.Read.remaining c.read_systems.new.input) c.read_systems.ensures.left _ c.in-Err.printed (rw c.in-Err.is at c.in_ok-systems.ensures.systems);
+      next = subst (λ (json : Bool). AnswersWhole (AnswersPath (is_set (codes "mountd") rows) json c.in_ok-path.path) json rows (g.I.Read.remaining c.args.input.now) c.args.subject.now c.answer_whole.result) c.is_set-2.ensures
+          (subst (λ (mountd : Bool). AnswersWhole (AnswersPath mountd c.is_set-2.result c.in_ok-path.path) c.is_set-2.result rows (g.I.Read.remaining c.args.input.now) c.args.subject.now c.answer_whole.result) c.is_set.ensures c.answer_whole.ensures);
     }

@@ -9,4 +9,4 @@ returns-in_err-subject g c =
     rw (p.1, p.2) (record { step = Err c.in_err-subject.field-0.0; is = c.in_err-subject.ensures; next = refl })
 
 pub returns : goal.returns
-returns g c = record { step = Ok c.in_ok-subject.subject; is = c.in_ok-subject.ensures; next = c.answer_subject.ensures }
+returns g c = record { step = Ok c.in_ok-subject.subject; is = c.in_ok-subject.ensures; next = c.answer_whole.ensures }

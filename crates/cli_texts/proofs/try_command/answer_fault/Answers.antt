@@ -7,11 +7,11 @@ use Rattle.cli_texts.proofs.try_command.answer_fault.Goals as goal
 pub returns-in-Ok : goal.returns-in-Ok
 returns-in-Ok c =
     let table = c.args.asked.filesystems.now in
-    let Gives = PrintsVerdict c.args.sources table (question_in c.args.asked.request.now c.in-Ok.field-0 c.args.asked.asking) in
+    let Gives = PrintsVerdict c.args.sources table (question_in c.args.asked.request.now c.in-Ok.field-0 c.args.asked.asking c.args.asked.json) in
     record {
       step = Ok c.in-Ok.field-0;
       is = c.in-Ok.ensures;
-      next = fault_told Gives Gives c.args.sources table c.args.error c.answer_error.result
+      next = fault_told Gives c.args.asked.json Gives c.args.sources table c.args.error c.answer_error.result
           (table_fault Gives c.args.sources table c.args.error c.requires.fault) c.answer_error.ensures;
     }
 

@@ -1,12 +1,12 @@
--- The request is parsed, the file systems are read, and then the files.
-use Rattle.std.proofs.Common.{◌∙◌, Err, List, Ok, Option, ap, codes, map, refl, subst, ℕ}
+-- The request is parsed, and then all is read.
+use Rattle.std.proofs.Common.{Bool, Err, List, Ok, Option, refl, subst, ℕ}
 use Rattle.std.proofs.lemmas.Result.{err_from_is_err_and}
+use Rattle.std.specs.Prelude.{codes}
 use Rattle.clap.specs.Words.{first_of}
+use Rattle.desk_tables.specs.declared.filesystems.Mount.{Mount}
 use Rattle.cli_words.specs.Words.{rows_in}
-use Rattle.cli_texts.specs.TableFiles.{input_count, named}
-use Rattle.cli_texts.specs.TryCommand.{AnswersFiles}
-use Rattle.cli_texts.specs.WholeFiles.{file_list, whole_files}
-use Rattle.cli_texts.proofs.AskedSystems.{with_fault, with_table, without}
+use Rattle.cli_texts.specs.TryCommand.{AnswersRequest, Asked}
+use Rattle.cli_texts.specs.WholeQuestion.{AnswersWhole}
 use Rattle.cli_texts.proofs.try_command.answer_subject.Goals as goal
 
 pub returns-in_err-request : goal.returns-in_err-request
@@ -14,41 +14,13 @@ returns-in_err-request g c =
     let p = err_from_is_err_and c.from_residual.result c.from_residual.ensures.1 in
     rw (p.1, p.2) (record { step = Err c.in_err-request.field-0.0; is = c.in_err-request.ensures; next = refl })
 
-pub returns-in_err-systems : goal.returns-in_err-systems
-returns-in_err-systems g c =
-    let p = err_from_is_err_and c.from_residual-in_err-systems.result c.from_residual-in_err-systems.ensures.1 in
-    let rows = rows_in c.args.words.now in
-    let subject = c.args.subject.now in
-    rw (p.1, p.2) (record {
-      step = Ok c.in_ok-request.request;
-      is = c.in_ok-request.ensures;
-      next = without subject rows c.whole_inputs-others.result (input_count (whole_files subject (codes "FILE") rows)) (c.whole_inputs-others.ensures.counted ∙ ap input_count c.whole_files-files.ensures)
-          (g.I.Read.remaining c.args.input.now) (g.I.Read.remaining c.read_systems.new.input) c.read_systems.ensures.left _ c.in_err-systems.field-0.0 c.in_err-systems.ensures.systems;
-    })
-
-pub returns-in-Ok : goal.returns-in-Ok
-returns-in-Ok g c =
-    let rows = rows_in c.args.words.now in
-    let subject = c.args.subject.now in
-    let left = g.I.Read.remaining c.read_systems.new.input in
-    let Answers : Option (List ℕ) → List (List ℕ × Option (List ℕ)) → Type 0 = λ word files.
-    AnswersFiles (record { word = word; asking = c.args.asking; request = c.in_ok-request.request; filesystems = c.in-Ok.filesystems }) files left c.answer_files.result in
-    record {
-      step = Ok c.in_ok-request.request;
-      is = c.in_ok-request.ensures;
-      next = with_table subject rows c.whole_inputs-others.result (input_count (whole_files subject (codes "FILE") rows)) (c.whole_inputs-others.ensures.counted ∙ ap input_count c.whole_files-files.ensures)
-          (g.I.Read.remaining c.args.input.now) left c.read_systems.ensures.left _ c.in-Ok.filesystems c.answer_files.result (rw c.in-Ok.is at c.in_ok-systems.ensures.systems)
-          (subst (λ (files : List (List ℕ × Option (List ℕ))). Answers (first_of (codes "as") rows) files) c.whole_files-files.ensures
-          (subst (λ (word : Option (List ℕ)). Answers word (map named (file_list c.whole_files-files.result))) c.given.ensures c.answer_files.ensures));
-    }
-
 pub returns : goal.returns
 returns g c =
     let rows = rows_in c.args.words.now in
-    let subject = c.args.subject.now in
+    let asked : Option (List ℕ) → Bool → List Mount → Asked = λ word json table. record { word = word; asking = c.args.asking; json = json; request = c.in_ok-request.request; filesystems = table } in
     record {
       step = Ok c.in_ok-request.request;
       is = c.in_ok-request.ensures;
-      next = with_fault subject rows c.whole_inputs-others.result (input_count (whole_files subject (codes "FILE") rows)) (c.whole_inputs-others.ensures.counted ∙ ap input_count c.whole_files-files.ensures)
-          (g.I.Read.remaining c.args.input.now) (g.I.Read.remaining c.read_systems.new.input) c.read_systems.ensures.left _ c.in-Err.printed (rw c.in-Err.is at c.in_ok-systems.ensures.systems);
+      next = subst (λ (json : Bool). AnswersWhole (λ table. AnswersRequest (asked (first_of (codes "as") rows) json table)) json rows (g.I.Read.remaining c.args.input.now) c.args.subject.now c.answer_whole.result) c.is_set.ensures
+          (subst (λ (word : Option (List ℕ)). AnswersWhole (λ table. AnswersRequest (asked word c.is_set.result table)) c.is_set.result rows (g.I.Read.remaining c.args.input.now) c.args.subject.now c.answer_whole.result) c.given.ensures c.answer_whole.ensures);
     }

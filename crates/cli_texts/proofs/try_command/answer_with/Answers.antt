@@ -26,9 +26,9 @@ returns-in-Ok c = record {
 pub returns-in-Err : goal.returns-in-Err
 returns-in-Err c =
     let table = c.args.asked.filesystems.now in
-    let Gives = PrintsVerdict c.args.sources table (question_in c.args.asked.request.now c.in_ok-own.own c.args.asked.asking) in
+    let Gives = PrintsVerdict c.args.sources table (question_in c.args.asked.request.now c.in_ok-own.own c.args.asked.asking c.args.asked.json) in
     record {
       step = Ok c.in_ok-own.own;
       is = own_read (option_map (λ word. word.now) c.args.asked.word) c.args.sources c.args.tables.now (Ok c.in_ok-own.own) c.requires.known c.in_ok-own.ensures;
-      next = fault_told Gives Gives c.args.sources table c.in-Err.error c.answer_error.result c.in-Err.ensures c.answer_error.ensures;
+      next = fault_told Gives c.args.asked.json Gives c.args.sources table c.in-Err.error c.answer_error.result c.in-Err.ensures c.answer_error.ensures;
     }

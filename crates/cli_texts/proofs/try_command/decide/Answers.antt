@@ -24,7 +24,7 @@ returns-in_err-tried c =
     let p = err_from_is_err_and c.from_residual-in_err-tried.result c.from_residual-in_err-tried.ensures.1 in
     let request = c.args.asked.request.now in
     let table = c.args.asked.filesystems.now in
-    let question = question_in request c.args.own.now c.args.asked.asking in
+    let question = question_in request c.args.own.now c.args.asked.asking c.args.asked.json in
     rw (p.1, p.2)
     (fault_tried (PrintsVerdict c.args.sources table question) c.args.tables.now (policy_of c.args.sources table) (read_whole_with Two c.args.tables.now c.in_ok-filesystems.filesystems c.args.sources.exports.text.now) question c.in_err-tried.field-0.0
     (read_known c.args.sources table c.in_ok-filesystems.filesystems c.args.tables.now c.requires.known c.in_ok-filesystems.ensures) c.in_err-tried.ensures)
@@ -39,7 +39,7 @@ returns c =
       tables_are = c.requires.known;
       tried = tried;
       answers =
-          subst (λ (read : Result Content SiteFault). IsAnswerBy c.args.tables.now read (question_in request c.args.own.now c.args.asked.asking) tried)
+          subst (λ (read : Result Content SiteFault). IsAnswerBy c.args.tables.now read (question_in request c.args.own.now c.args.asked.asking c.args.asked.json) tried)
           (sym (read_known c.args.sources table c.in_ok-filesystems.filesystems c.args.tables.now c.requires.known c.in_ok-filesystems.ensures)) c.in_ok-tried.ensures;
       prints = c.print_tried.ensures;
     }

@@ -4,7 +4,7 @@ use Rattle.std.specs.List.{All}
 use Rattle.std.proofs.lemmas.List.Elements.{All-filter}
 use Rattle.desk_findings.specs.Finding.{HasSlice}
 use Rattle.desk_findings.specs.declared.finding.Finding.{Finding}
-use Rattle.desk_check.specs.Ignored.{is_ignored}
+use Rattle.desk_check.specs.IgnoredWarnings.{is_ignored}
 use Rattle.desk_check.proofs.check_report.report_heard.Goals as goal
 
 pub report_rest-requires : goal.report_rest-requires

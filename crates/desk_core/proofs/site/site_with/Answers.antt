@@ -1,4 +1,5 @@
 use Rattle.std.proofs.Common.{◌∙◌, ap}
+use Rattle.desk_core.specs.Foresight.{revision_with}
 use Rattle.desk_core.specs.Head.{newest_in}
 use Rattle.desk_core.specs.Site.{revision_text}
 use Rattle.desk_core.specs.PrivateSite.{with_text}
@@ -7,4 +8,5 @@ use Rattle.desk_core.proofs.site.site_with.Goals as goal
 
 pub returns : goal.returns
 returns c =
-    c.in_ok-take_head.ensures ∙ ap (λ t. with_text t c.args.head.now.file (revision_text c.args.head.now)) c.in_ok-site.ensures ∙ site_put (newest_in c.args.heads.now) c.args.head.now
+    let head = revision_with c.args.file.now c.args.text.now in
+    c.in_ok-take_text.ensures ∙ ap (λ t. with_text t head.file (revision_text head)) c.in_ok-site.ensures ∙ site_put (newest_in c.args.heads.now) head

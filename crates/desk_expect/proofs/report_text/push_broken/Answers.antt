@@ -1,30 +1,15 @@
-use Rattle.std.proofs.Common.{◌∙◌, ◌++◌, ap, map, sym}
+use Rattle.std.proofs.Common.{◌≡◌, ◌∙◌, ◌++◌, List, OnOk, ap, map, subst, ℕ}
 use Rattle.std.specs.List.{flat_map}
 use Rattle.std.specs.String.{string_bytes}
-use Rattle.std.proofs.lemmas.List.{append-nil, append_assoc, take_all}
+use Rattle.std.proofs.lemmas.List.{append_assoc}
 use Rattle.desk_expect.specs.Judging.{judged_section}
-use Rattle.desk_impact.specs.declared.sections.Section.{Section}
-use Rattle.desk_expect.specs.declared.judging.Judged.{Judged}
 use Rattle.desk_expect.specs.ReportText.{headline, section_text}
-use Rattle.desk_expect.proofs.Written.{by_values, writes_next}
 use Rattle.desk_expect.proofs.report_text.push_broken.Goals as goal
-
-pub loop-section-init : goal.loop-section-init
-loop-section-init c = c.in_ok-push_headline.ensures ∙ sym (append-nil (string_bytes c.args.text.now ++ headline c.args.file.now c.args.broken.now.expectation.now))
-
-pub loop-section-preserved : goal.loop-section-preserved
-loop-section-preserved c =
-    writes_next (λ (section : Section Judged). section_text c.args.policy.now (judged_section section)) c.as_slice-section-items.result.now c.loop-section.section-index c.section-item.result c.loop-section-test.true c.section-item.is
-    (string_bytes c.args.text.now ++ headline c.args.file.now c.args.broken.now.expectation.now) (string_bytes c.loop-section.text) (string_bytes c.push_section.new.text)
-    c.loop-section.invariant c.in_ok-push_section.ensures
 
 pub returns : goal.returns
 returns c =
     let start = string_bytes c.args.text.now in
     let head = headline c.args.file.now c.args.broken.now.expectation.now in
-    let write = section_text c.args.policy.now in
-    let items = c.as_slice-section-items.result.now in
-    c.loop-section.invariant
-    ∙ ap (λ sections. (start ++ head) ++ flat_map (λ (section : Section Judged). write (judged_section section)) sections) (take_all c.loop-section.section-index items c.loop-section-test.false ∙ c.as_slice-section-items.ensures)
-    ∙ ap (λ t. (start ++ head) ++ t) (by_values judged_section write c.args.broken.now.sections)
-    ∙ append_assoc start head (flat_map write (map judged_section c.args.broken.now.sections))
+    let sections = flat_map (section_text c.args.policy.now) (map judged_section c.args.broken.now.sections) in
+    subst (λ (bytes : List ℕ). OnOk c.push_sections.result (string_bytes c.push_sections.new.text ≡ bytes))
+    (ap (λ (t : List ℕ). t ++ sections) c.in_ok-push_headline.ensures ∙ append_assoc start head sections) c.push_sections.ensures

@@ -1,6 +1,6 @@
 -- The lines so far.
 use Rattle.std.proofs.Common.{◌≡◌, filter, map, take}
-use Rattle.desk_policy.specs.Unlisted.{has_unlisted}
+use Rattle.desk_policy.specs.UnlistedCustodians.{has_unlisted}
 use Rattle.desk_findings.specs.CheckOdd.{odd_at}
 use Rattle.desk_findings.specs.CheckSite.{odd_of_unlisted}
 use Rattle.desk_findings.proofs.check_site.unlisted.Given as goal

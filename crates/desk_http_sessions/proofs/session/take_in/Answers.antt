@@ -1,6 +1,6 @@
 -- The bytes are read whole, unless the read fails or would be one too many; and the end is the end.
 use Rattle.std.proofs.Common.{◌∙◌, ap, arith, sym, ◌++◌, ◌∷◌, [], Bor, List, ℕ}
-use Rattle.desk_http_sessions.proofs.GivenLemmas.{takes_in}
+use Rattle.desk_http_sessions.proofs.GivenBytesLemmas.{takes_in}
 use Rattle.desk_http_sessions.proofs.session.take_in.Goals as goal
 
 pub returns : goal.returns

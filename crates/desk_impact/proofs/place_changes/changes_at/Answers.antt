@@ -4,10 +4,10 @@ use Rattle.std.proofs.lemmas.Result.{IfOk-weaker}
 use Rattle.desk_tables.specs.FileSystems.{fs_of}
 use Rattle.desk_impact.specs.Impact.{IsImpact, change_value}
 use Rattle.desk_impact.specs.declared.changes.TwoVerdicts.{TwoVerdicts as KeptVerdicts}
-use Rattle.desk_impact.specs.Known.{IsKnownChange}
+use Rattle.desk_impact.specs.KnownSystems.{IsKnownChange}
 use Rattle.desk_impact.specs.Places.{Others, place_of, place_verdicts}
 use Rattle.desk_impact.specs.PrivatePlaces.{path_of}
-use Rattle.desk_impact.specs.declared.known.Known.{Known}
+use Rattle.desk_impact.specs.declared.known_systems.Known.{Known}
 use Rattle.desk_impact.specs.declared.places.Place.{Place as LentPlace}
 use Rattle.desk_impact.proofs.Learned.{is_known, known_others}
 use Rattle.desk_impact.proofs.place_changes.changes_at.Goals as goal

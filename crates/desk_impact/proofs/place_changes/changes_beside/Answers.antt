@@ -2,8 +2,8 @@ use Rattle.std.proofs.Common.{◌≡◌, ◌∙◌, Bor, map, subst, sym}
 use Rattle.std.proofs.lemmas.Result.{IfOk-weaker}
 use Rattle.desk_tables.specs.FileSystems.{fs_of}
 use Rattle.desk_policy.specs.declared.row.Row.{Row}
-use Rattle.desk_who.specs.Beside.{AreStartsWithin}
-use Rattle.desk_impact.specs.Beside.{IsImpactBeside}
+use Rattle.desk_who.specs.MostlySame.{AreStartsWithin}
+use Rattle.desk_impact.specs.MostlySame.{IsImpactBeside}
 use Rattle.desk_impact.specs.Impact.{IsImpact, change_value, verdicts_at}
 use Rattle.desk_impact.specs.Places.{Others, place_verdicts}
 use Rattle.desk_impact.proofs.Together.{verdicts_go}

@@ -3,10 +3,10 @@ use Rattle.desk_tables.specs.FileSystems.{fs_of}
 use Rattle.desk_policy.specs.Policy.{Content}
 use Rattle.desk_impact.specs.Impact.{AreStartsOfChanges, IsImpact, change_value, verdicts_at}
 use Rattle.desk_impact.specs.declared.changes.TwoVerdicts.{TwoVerdicts as KeptVerdicts}
-use Rattle.desk_impact.specs.Known.{fs_number}
+use Rattle.desk_impact.specs.KnownSystems.{fs_number}
 use Rattle.desk_impact.specs.Places.{paths_in}
-use Rattle.desk_impact.specs.PrivateKnown.{HasLearnedChange}
-use Rattle.desk_impact.specs.declared.known.Known.{Known}
+use Rattle.desk_impact.specs.PrivateKnownSystems.{HasLearnedChange}
+use Rattle.desk_impact.specs.declared.known_systems.Known.{Known}
 use Rattle.desk_impact.proofs.Learned.{learned_change, number_is}
 use Rattle.desk_impact.proofs.place_changes.learn_changes.Goals as goal
 

@@ -5,10 +5,10 @@ use Rattle.desk_tables.specs.FileSystems.{fs_of}
 use Rattle.desk_who.specs.Runs.{AreRunsWithValue, run_value}
 use Rattle.desk_who.specs.Searching.{ByRule}
 use Rattle.desk_impact.specs.Places.{Others, place_of}
-use Rattle.desk_impact.specs.PrivateKnown.{AreKnownFindings}
+use Rattle.desk_impact.specs.PrivateKnownSystems.{AreKnownFindings}
 use Rattle.desk_impact.specs.PrivatePlaces.{path_of}
 use Rattle.desk_impact.specs.Sections.{found_of}
-use Rattle.desk_impact.specs.declared.known.Known.{Known}
+use Rattle.desk_impact.specs.declared.known_systems.Known.{Known}
 use Rattle.desk_impact.specs.declared.places.Place.{Place as LentPlace}
 use Rattle.desk_impact.proofs.Learned.{is_known, known_findings}
 use Rattle.desk_impact.proofs.place_findings.findings_at.Goals as goal

@@ -2,7 +2,7 @@ use Rattle.std.proofs.Common.{◌≡◌, ◌∙◌, Bor, map, subst, sym}
 use Rattle.std.proofs.lemmas.Result.{IfOk-weaker}
 use Rattle.desk_tables.specs.FileSystems.{fs_of}
 use Rattle.desk_policy.specs.declared.row.Row.{Row}
-use Rattle.desk_who.specs.Beside.{AreFoundBeside, AreStartsWithin}
+use Rattle.desk_who.specs.MostlySame.{AreFoundBeside, AreStartsWithin}
 use Rattle.desk_who.specs.Runs.{AreRunsWithValue, run_value}
 use Rattle.desk_who.specs.Searching.{ByRule, found_at}
 use Rattle.desk_impact.specs.Places.{Others}

@@ -3,10 +3,10 @@ use Rattle.desk_tables.specs.FileSystems.{fs_of}
 use Rattle.desk_policy.specs.Policy.{Content}
 use Rattle.desk_who.specs.Runs.{AreRunsWithValue, run_value}
 use Rattle.desk_who.specs.Searching.{ByRule, found_at}
-use Rattle.desk_impact.specs.Known.{fs_number}
+use Rattle.desk_impact.specs.KnownSystems.{fs_number}
 use Rattle.desk_impact.specs.Places.{paths_in}
-use Rattle.desk_impact.specs.PrivateKnown.{HasLearnedFindings}
-use Rattle.desk_impact.specs.declared.known.Known.{Known}
+use Rattle.desk_impact.specs.PrivateKnownSystems.{HasLearnedFindings}
+use Rattle.desk_impact.specs.declared.known_systems.Known.{Known}
 use Rattle.desk_impact.proofs.Learned.{learned_findings, number_is}
 use Rattle.desk_impact.proofs.place_findings.learn_findings.Goals as goal
 

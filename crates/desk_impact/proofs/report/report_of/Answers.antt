@@ -3,7 +3,7 @@ use Rattle.std.specs.List.{All}
 use Rattle.std.specs.String.{string_bytes}
 use Rattle.std.proofs.lemmas.List.Elements.{All-nil}
 use Rattle.desk_impact.specs.Impact.{IsImpact, change_value}
-use Rattle.desk_impact.specs.Known.{IsKnownChange}
+use Rattle.desk_impact.specs.KnownSystems.{IsKnownChange}
 use Rattle.desk_impact.specs.Places.{AreInOrder, paths_in, place_of, place_verdicts, taken_by}
 use Rattle.desk_impact.specs.Writings.{AreWritings}
 use Rattle.desk_impact.proofs.Reporting.{reported, told_first, told_next}

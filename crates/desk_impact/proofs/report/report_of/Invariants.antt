@@ -1,7 +1,7 @@
 -- The places so far are told, each has less than 2 ^ 64 changes, and what is known is so.
 use Rattle.std.proofs.Common.{◌*◌, ◌≤◌, ◌^◌, All, map, take}
 use Rattle.std.specs.String.{string_bytes}
-use Rattle.desk_impact.specs.Known.{IsKnownChange}
+use Rattle.desk_impact.specs.KnownSystems.{IsKnownChange}
 use Rattle.desk_impact.specs.Places.{place_of}
 use Rattle.desk_impact.specs.PrivateReport.{AreTold}
 use Rattle.desk_impact.proofs.report.report_of.Given as goal

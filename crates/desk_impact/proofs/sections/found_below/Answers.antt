@@ -4,7 +4,7 @@ use Rattle.std.proofs.lemmas.List.Elements.{All-nil}
 use Rattle.desk_policy.specs.Policy.{Content}
 use Rattle.desk_who.specs.Runs.{run_value}
 use Rattle.desk_impact.specs.Places.{AreInOrder, paths_in, place_of, taken_by}
-use Rattle.desk_impact.specs.PrivateKnown.{AreKnownFindings}
+use Rattle.desk_impact.specs.PrivateKnownSystems.{AreKnownFindings}
 use Rattle.desk_impact.specs.Writings.{AreWritings}
 use Rattle.desk_impact.specs.Sections.{ArePlacesBelow, place_found}
 use Rattle.desk_impact.proofs.Found.{all, next, none_yet}

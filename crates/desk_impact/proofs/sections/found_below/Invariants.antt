@@ -2,7 +2,7 @@
 use Rattle.std.proofs.Common.{All, map, take}
 use Rattle.desk_who.specs.Searching.{ByRule}
 use Rattle.desk_impact.specs.Places.{place_of}
-use Rattle.desk_impact.specs.PrivateKnown.{AreKnownFindings}
+use Rattle.desk_impact.specs.PrivateKnownSystems.{AreKnownFindings}
 use Rattle.desk_impact.specs.PrivateSections.{AreFoundAmong}
 use Rattle.desk_impact.specs.Sections.{place_found}
 use Rattle.desk_impact.proofs.sections.found_below.Given as goal

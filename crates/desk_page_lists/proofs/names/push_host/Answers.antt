@@ -1,18 +1,14 @@
+use Rattle.std.proofs.Common.{◌++◌, ◌∙◌, ap, map, refl}
 use Rattle.std.specs.String.{string_bytes}
-use Rattle.desk_page.specs.TextRows.{count_cell}
-use Rattle.desk_page_lists.specs.Names.{kind_cell, name_end}
-use Rattle.desk_page_lists.specs.Tables.{row_head}
-use Rattle.desk_page.proofs.Gaining.{four_pieces}
+use Rattle.page_html.specs.Parts.{item_of}
+use Rattle.page_html.specs.Tables.{row_html}
+use Rattle.desk_page_lists.specs.Names.{host_frame}
+use Rattle.desk_page_lists.proofs.Gathering.{cell_before, part_before}
 use Rattle.desk_page_lists.proofs.names.push_host.Goals as goal
 
 pub returns : goal.returns
 returns c =
-    let s0 = string_bytes c.args.page.now in
-    let s1 = string_bytes c.push_row_head.new.page in
-    let s2 = string_bytes c.push_kind_cell.new.page in
-    let s3 = string_bytes c.push_count_cell.new.page in
-    let s4 = string_bytes c.push_name_end.new.page in
-    four_pieces s0 s1 s2 s3 s4
-    (row_head c.args.row.now.name.now) (kind_cell c.args.row.now.kind) (count_cell c.args.row.now.addresses)
-    (name_end c.args.row.now.ranges.now c.args.row.now.uses.now)
-    c.in_ok-push_row_head.ensures c.in_ok-push_kind_cell.ensures c.in_ok-push_count_cell.ensures c.in_ok-push_name_end.ensures
+    c.in_ok-push_row.ensures ∙ ap (λ cells. string_bytes c.args.page.now ++ row_html host_frame cells)
+    (c.five_cells.ensures ∙ cell_before _ _ _ _ refl (part_before _ _ _ _ c.kind_of.ensures
+    (cell_before _ _ _ _ refl (part_before _ _ _ _ c.stands_for.ensures
+    (cell_before _ _ _ _ (ap (map item_of) c.as_slice.ensures.value ∙ c.in_ok-uses.ensures) refl)))))

@@ -1,10 +1,11 @@
 use Rattle.std.specs.String.{string_bytes}
-use Rattle.desk_page_lists.specs.Names.{host}
-use Rattle.desk_page.proofs.Gathered.{writes}
+use Rattle.desk_page.proofs.Gathered.{writes_values}
+use Rattle.page_html.specs.Tables.{row_html}
+use Rattle.desk_page_lists.specs.Names.{host, host_frame}
 use Rattle.desk_page_lists.proofs.names.push_host_rows.Goals as goal
 
 pub loop-row-preserved : goal.loop-row-preserved
 loop-row-preserved c =
-    writes c.args.rows.now c.loop-row.row-index _ host (string_bytes c.args.page.now) (string_bytes c.loop-row.page)
+    writes_values host c.args.rows.now c.loop-row.row-index _ (row_html host_frame) (string_bytes c.args.page.now) (string_bytes c.loop-row.page)
     (string_bytes c.push_host.new.page) c.loop-row-test.true c.loop-row.invariant
     c.in_ok-push_host.ensures

@@ -1,22 +1,20 @@
-use Rattle.std.proofs.Common.{codes}
+use Rattle.std.proofs.Common.{[], ◌∷◌, codes, map}
 use Rattle.std.specs.Prelude.{length}
 use Rattle.std.specs.String.{string_bytes}
-use Rattle.desk_page_lists.specs.Names.{host_rows}
-use Rattle.desk_page_lists.specs.Tables.{long_end, long_start, table_end, table_start}
-use Rattle.desk_page_lists.specs.declared.tables.Table.TheVariants.{Hosts}
 use Rattle.desk_page.proofs.Gaining.{five_pieces}
+use Rattle.page_html.specs.Blocks.{tag_html}
+use Rattle.page_html.specs.Tables.{rows_html, table_start}
+use Rattle.page_html.specs.Titles.{Said}
+use Rattle.page_html.specs.declared.blocks.Tag.TheVariants.{TableEnd}
+use Rattle.desk_page_lists.specs.Names.{host, host_frame}
+use Rattle.desk_page_lists.specs.Tables.{long_end, long_start}
 use Rattle.desk_page_lists.proofs.names.push_some_hosts.Goals as goal
 
 pub returns : goal.returns
 returns c =
-    let s0 = string_bytes c.args.page.now in
-    let s1 = string_bytes c.push_long_start.new.page in
-    let s2 = string_bytes c.push_table_start.new.page in
-    let s3 = string_bytes c.push_host_rows.new.page in
-    let s4 = string_bytes c.push_table_end.new.page in
-    let s5 = string_bytes c.push_long_end.new.page in
-    five_pieces s0 s1 s2 s3 s4 s5
-    (long_start 24 (length c.args.rows.now) (codes "name") (codes "names")) (table_start Hosts) (host_rows c.args.rows.now) table_end
-    (long_end 24 (length c.args.rows.now))
-    c.in_ok-push_long_start.ensures c.in_ok-push_table_start.ensures c.in_ok-push_host_rows.ensures c.in_ok-push_table_end.ensures
-    c.in_ok-push_long_end.ensures
+    let rows = c.args.rows.now in
+    five_pieces (string_bytes c.args.page.now) (string_bytes c.push_long_start.new.page) (string_bytes c.push_table_start.new.page)
+    (string_bytes c.push_host_rows.new.page) (string_bytes c.push_tag.new.page) (string_bytes c.push_long_end.new.page)
+    (long_start 24 (length rows) (codes "name") (codes "names")) (table_start host_frame (Said (codes "Names of hosts that lines write") ∷ []))
+    (rows_html host_frame (map host rows)) (tag_html TableEnd) (long_end 24 (length rows))
+    c.in_ok-push_long_start.ensures c.in_ok-push_table_start.ensures c.in_ok-push_host_rows.ensures c.in_ok-push_tag.ensures c.in_ok-push_long_end.ensures

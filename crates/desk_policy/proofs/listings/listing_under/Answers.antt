@@ -2,7 +2,7 @@ use Rattle.std.proofs.Common.{◌≡◌, ◌<◌, ℕ, ◌+◌, List, [], ◌∷
 use Rattle.std.specs.List.{cons_option, filter_map}
 use Rattle.std.proofs.lemmas.List.{take_all, take_more}
 use Rattle.std.proofs.lemmas.List.Elements.{filter_map-append}
-use Rattle.desk_policy.specs.Listings.{listing_of, shown_at}
+use Rattle.desk_policy.specs.Listings.{listing_of, shown_of_mount}
 use Rattle.desk_policy.proofs.listings.listing_under.Goals as goal
 
 -- one more value, if there is one
@@ -14,12 +14,12 @@ one_more f xs i x done new found below is so_far gives pushed =
 
 pub loop-mount-preserved : goal.loop-mount-preserved
 loop-mount-preserved c =
-    one_more (λ mount. shown_at c.args.policy.now c.args.address.number mount.path) c.as_slice-mount-items.result.now c.loop-mount.mount-index c.mount-item.result
+    one_more (λ mount. shown_of_mount c.args.policy.now c.args.address.number mount.path) c.as_slice-mount-items.result.now c.loop-mount.mount-index c.mount-item.result
     c.loop-mount.listing.items c.push_if_shown.new.listing.items c.in_ok-shown.shown c.loop-mount-test.true c.mount-item.is c.loop-mount.invariant c.in_ok-shown.ensures c.in_ok-push_if_shown.ensures
 
 pub returns : goal.returns
 unfolding listing_of
 returns c =
     c.loop-mount.invariant
-    ∙ ap (filter_map (λ mount. shown_at c.args.policy.now c.args.address.number mount.path))
+    ∙ ap (filter_map (λ mount. shown_of_mount c.args.policy.now c.args.address.number mount.path))
     (take_all c.loop-mount.mount-index c.as_slice-mount-items.result.now c.loop-mount-test.false ∙ c.as_slice-mount-items.ensures ∙ c.filesystems.ensures)

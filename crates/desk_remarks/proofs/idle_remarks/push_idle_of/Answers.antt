@@ -1,6 +1,5 @@
 -- The lines that may grant are those that are gathered.
-use Rattle.std.proofs.Common.{◌≡◌, ◌∙◌, ◌++◌, ◌∷◌, [], List, ap, filter, map, nat_cmp}
-use Rattle.std.specs.BTreeSet.{contains}
+use Rattle.std.proofs.Common.{◌≡◌, ◌∙◌, ◌++◌, ◌∷◌, [], List, ap, filter}
 use Rattle.std.specs.List.{flat_map}
 use Rattle.desk_idle.specs.declared.idle.Idle.{Idle}
 use Rattle.desk_remarks.specs.PrivateUnwarnedLines.{is_outside}

@@ -4,7 +4,6 @@ use Rattle.std.proofs.lemmas.List.{take_more}
 use Rattle.std.specs.List.{AllZip}
 use Rattle.desk_tables.specs.FileSystems.{fs_of}
 use Rattle.desk_tables.specs.declared.filesystems.Mount.{Mount}
-use Rattle.desk_policy.specs.Policy.{Content}
 use Rattle.desk_remarks.specs.SaidOfSystems.{IsSaidIn}
 use Rattle.desk_remarks.specs.declared.said_of_systems.Said.{Said}
 use Rattle.desk_remarks.proofs.said_of_systems.said_of_each.Goals as goal

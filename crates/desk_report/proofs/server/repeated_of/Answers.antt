@@ -1,6 +1,5 @@
-use Rattle.std.proofs.Common.{◌≡◌, ◌≤◌, ◌∙◌, ℕ, ap, length, rules, sym, tests}
+use Rattle.std.proofs.Common.{◌≡◌, ◌≤◌, ◌∙◌, length, rules, sym, tests}
 use Rattle.std.proofs.lemmas.List.Sorted.{IsPartitionPoint-from_clause}
-use Rattle.desk_server.specs.declared.repeated_client.RepeatedClient.{RepeatedClient}
 use Rattle.desk_report.proofs.Numbered.{found_there, is_before, none_there, not_there, parted}
 use Rattle.desk_report.proofs.Served.{repeated_line}
 use Rattle.desk_report.proofs.server.repeated_of.Goals as goal

@@ -1,6 +1,5 @@
-use Rattle.std.proofs.Common.{◌≡◌, ◌≤◌, ◌∙◌, ℕ, ap, length, rules, sym, tests}
+use Rattle.std.proofs.Common.{◌≡◌, ◌≤◌, ◌∙◌, length, rules, sym, tests}
 use Rattle.std.proofs.lemmas.List.Sorted.{IsPartitionPoint-from_clause}
-use Rattle.desk_server.specs.declared.wider_grant.WiderGrant.{WiderGrant}
 use Rattle.desk_report.proofs.Numbered.{found_there, is_before, none_there, not_there, parted}
 use Rattle.desk_report.proofs.Served.{wider_line}
 use Rattle.desk_report.proofs.server.wider_of.Goals.{in_default-via-in-Some+else-one-line, in_default-via-in_default}

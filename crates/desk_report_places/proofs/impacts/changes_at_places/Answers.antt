@@ -4,7 +4,7 @@ use Rattle.std.proofs.lemmas.List.{take_all}
 use Rattle.std.proofs.lemmas.List.Elements.{All-nil}
 use Rattle.desk_who.specs.declared.runs.Run.{Run}
 use Rattle.desk_impact.specs.Impact.{change_value}
-use Rattle.desk_impact.specs.Known.{IsKnownChange}
+use Rattle.desk_impact.specs.KnownSystems.{IsKnownChange}
 use Rattle.desk_impact.specs.Places.{AreInOrder, paths_in, place_of, taken_by}
 use Rattle.desk_impact.specs.Writings.{AreWritings}
 use Rattle.desk_impact.specs.declared.changes.TwoVerdicts.{TwoVerdicts}

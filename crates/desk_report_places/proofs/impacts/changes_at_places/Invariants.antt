@@ -1,6 +1,6 @@
 -- All that changes at the places so far; and what is known is so.
 use Rattle.std.proofs.Common.{All, map, take}
-use Rattle.desk_impact.specs.Known.{IsKnownChange}
+use Rattle.desk_impact.specs.KnownSystems.{IsKnownChange}
 use Rattle.desk_impact.specs.Places.{place_of}
 use Rattle.desk_report_places.specs.Changes.{row_value}
 use Rattle.desk_report_places.specs.PrivateImpacts.{AreAllAt}

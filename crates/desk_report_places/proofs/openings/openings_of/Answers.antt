@@ -1,9 +1,5 @@
-use Rattle.std.proofs.Common.{◌≡◌, ◌∙◌, List, rules}
-use Rattle.std.specs.Cmp.Lexicographic.{slice_cmp}
-use Rattle.std.specs.List.{dedup}
-use Rattle.std.specs.Ordering.{nat_cmp}
+use Rattle.std.proofs.Common.{◌≡◌, ◌∙◌, rules}
 use Rattle.std.proofs.lemmas.Fn.{always_returns_same, dedup_same}
-use Rattle.desk_page_places.specs.declared.openings.PlaceOpening.{PlaceOpening}
 use Rattle.desk_report_places.specs.Openings.{order_of, same_denied}
 use Rattle.desk_report_places.proofs.openings.openings_of.Goals as goal
 

@@ -1,8 +1,5 @@
-use Rattle.std.proofs.Common.{◌≡◌, ◌∙◌, None, subst, sym}
-use Rattle.std.specs.Prelude.{filter}
-use Rattle.desk_policy.specs.PrivateWeights.{IsGreatest}
+use Rattle.std.proofs.Common.{◌≡◌, ◌∙◌}
 use Rattle.desk_text.specs.Address.{number_of}
-use Rattle.desk_server_prints.specs.PrivateGrantingLine.{is_wider}
 use Rattle.desk_server_prints.proofs.Widest.{first_is, none_is}
 use Rattle.desk_server_prints.proofs.granting_line.wider_among.Goals as goal
 

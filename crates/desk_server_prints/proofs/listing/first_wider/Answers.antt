@@ -1,9 +1,7 @@
-use Rattle.std.proofs.Common.{◌≡◌, ◌∙◌, ℕ, None, Option, ap, arith, map, subst, sym}
+use Rattle.std.proofs.Common.{◌≡◌, ◌∙◌, ℕ, None, ap, arith, subst, sym}
 use Rattle.std.specs.Prelude.{List}
-use Rattle.desk_text.specs.Address.{number_of}
-use Rattle.desk_server_prints.specs.Listing.{AreVerdictStarts, IsFirstOrNone, wider_at}
+use Rattle.desk_server_prints.specs.Listing.{wider_at}
 use Rattle.desk_server_prints.specs.PrivateListing.{IsFirstOf}
-use Rattle.desk_server_prints.specs.declared.listing.WiderClient.{WiderClient}
 use Rattle.desk_server_prints.proofs.FirstClient.{first_of_all, wider_starts}
 use Rattle.desk_server_prints.proofs.listing.first_wider.Goals as goal
 use Rattle.desk_server_prints.proofs.listing.first_wider.Goals.{in-Some, in-None}

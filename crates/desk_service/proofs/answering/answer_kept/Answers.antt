@@ -33,7 +33,7 @@ returns-in-Who g c = λ history pending stands.
 pub returns-in-Proposal : goal.returns-in-Proposal
 returns-in-Proposal g c = λ history pending stands.
     let asked : question_of c.args.question ≡ OfFile c.in-OfFile.name.now of_file.Proposal = ap question_of c.in-OfFile.is ∙ ap (λ (what : FileQuestion). OfFile c.in-OfFile.name.now what) c.in-Proposal.is in
-    subst (λ (q : Question). IfOk c.proposal_answer.result (λ answer. AnswersByHistory history q (answer_of g.V.PolicyView.in_force answer))) (sym asked) (c.proposal_answer.ensures history pending stands)
+    subst (λ (q : Question). AnswersByHistory history q (answer_of g.V.PolicyView.in_force c.proposal_answer.result)) (sym asked) (c.proposal_answer.ensures history pending stands)
 
 pub returns-in-Files : goal.returns-in-Files
 returns-in-Files g c = λ history pending stands.

@@ -12,6 +12,11 @@ entry_of-requires g c =
     let kept : All CanBeKept c.args.self.now.heads = subst (λ s. All CanBeKept s.heads) c.self.view_is c.self.invariant.kept in
     (within c.args.self.now.heads c.args.self.now.proposals (asked c.args.edit.now) kept c.requires).0
 
+pub change_by-requires : goal.change_by-requires
+change_by-requires g c =
+    let kept : All CanBeKept c.args.self.now.heads = subst (λ s. All CanBeKept s.heads) c.self.view_is c.self.invariant.kept in
+    (within c.args.self.now.heads c.args.self.now.proposals (asked c.args.edit.now) kept c.requires).1
+
 pub returns-in-Ok : goal.returns-in-Ok
 returns-in-Ok g c =
     let state = c.args.self.now in

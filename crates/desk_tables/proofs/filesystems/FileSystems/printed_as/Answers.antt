@@ -9,6 +9,6 @@ use Rattle.desk_tables.proofs.filesystems.FileSystems.printed_as.Goals as goal
 pub returns : goal.returns
 returns c =
     let mounts : List Mount = c.as_slice.result.now in
-    let same : mounts ≡ c.args.self.now = c.as_slice.ensures ∙ c.self.view_is in
+    let same : mounts ≡ c.args.self.now = c.as_slice.ensures ∙ c.deref.ensures ∙ c.self.view_is in
     let named : c.map.result ≡ option_map (λ i. record { 0 = i }) c.place_printed.result = search rules in
     named ∙ ap (option_map (λ i. record { 0 = i })) (c.place_printed.ensures ∙ ap (λ (table : List Mount). position (λ mount. bytes_eq (path_text mount.path) c.args.text.now) table) same)

@@ -1,0 +1,5 @@
+pub mod Changes
+pub mod Exports
+pub mod Files
+pub mod Log
+pub mod Why
