@@ -21,8 +21,8 @@ pub fn refused(alloc: Global, why: Refused, note: String) -> Result<Printed, Fai
     }
 }
 
-/// Returns the exit status of a refusal.
-fn refused_status(why: &Refused) -> u8
+/// Returns the exit status of a refusal: 3 for the fault of a site, 4 for what the desk could not do, else 1.
+pub fn refused_status(why: &Refused) -> u8
     ensures { result ≡ spec.refused_status why.now }
 {
     match why {

@@ -141,18 +141,16 @@ lines_printed asked answer (Ok printed) e is = subst (λ (json : Bool). PrintsBy
 lines_printed asked answer (Err failure) e is = is
 
 -- why a mount is granted or denied is printed, by the printer
-pub why_printed : (asked : Asked) (answer : Answer) (content : Content) (reasons : List ℕ) (question : Option MountQuestion) (result : Result Printed Failure) → answer ≡ WhyIs content reasons → question ≡ mount_in asked.printer
-    → TriesToPrintWhy question content reasons result → TriesToPrintLines asked answer result
-why_printed asked answer content reasons question (Ok printed) e same is =
-    subst (λ (a : Answer). PrintsLines asked a printed) (sym e) (subst (λ (q : Option MountQuestion). PrintsWhy q content reasons printed) same is)
-why_printed asked answer content reasons question (Err failure) e same is = is
+pub why_printed : (asked : Asked) (answer : Answer) (content : Content) (reasons : List ℕ) (result : Result Printed Failure) → answer ≡ WhyIs content reasons
+    → TriesToPrintWhy (mount_in asked.printer) content reasons result → TriesToPrintLines asked answer result
+why_printed asked answer content reasons (Ok printed) e is = subst (λ (a : Answer). PrintsLines asked a printed) (sym e) is
+why_printed asked answer content reasons (Err failure) e is = is
 
 -- so it is where an object is asked for
-pub why_told : (asked : Asked) (answer : Answer) (content : Content) (reasons : List ℕ) (question : Option MountQuestion) (result : Result Printed Failure) → answer ≡ WhyIs content reasons → question ≡ mount_in asked.printer
-    → TriesToPrintWhy question content reasons result → TriesToPrintObject asked answer result
-why_told asked answer content reasons question (Ok printed) e same is =
-    subst (λ (a : Answer). PrintsObject asked a printed) (sym e) (subst (λ (q : Option MountQuestion). PrintsWhy q content reasons printed) same is)
-why_told asked answer content reasons question (Err failure) e same is = is
+pub why_told : (asked : Asked) (answer : Answer) (content : Content) (reasons : List ℕ) (result : Result Printed Failure) → answer ≡ WhyIs content reasons
+    → TriesToPrintWhy (mount_in asked.printer) content reasons result → TriesToPrintObject asked answer result
+why_told asked answer content reasons (Ok printed) e is = subst (λ (a : Answer). PrintsObject asked a printed) (sym e) is
+why_told asked answer content reasons (Err failure) e is = is
 
 -- the same, printed alone
 pub alone : (content : Content) (reasons : List ℕ) (result : Result Printed Failure) → PrintsText 0 (shown_lines reasons) result → TriesToPrintWhy None content reasons result

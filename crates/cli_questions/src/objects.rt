@@ -9,7 +9,7 @@ ghost use Rattle.desk_policy.specs.Verdict.{verdict_result};
 ghost use Rattle.desk_who.specs.Who.{range_value};
 ghost use Rattle.desk_impact.specs.ListedChanges.{AreListed, listed_place};
 ghost use Rattle.desk_service.specs.Foreseeing.{content_after, foreseen_of};
-ghost use Rattle.desk_service.specs.Questions.{ForeseenIs, answer_of, question_of};
+ghost use Rattle.desk_service.specs.Questions.{ForeseenIs, NoRevision, RefusedBy, answer_of, question_of};
 ghost use Rattle.desk_http_bodies.specs.Revisions.{file_data, proposal_data};
 ghost use Rattle.desk_http_bodies.specs.Verdicts.{verdict_data};
 ghost use Rattle.desk_json.specs.Changes.{changes_data};
@@ -19,15 +19,16 @@ ghost use Rattle.cli_desk.specs.RefusalLines as lines;
 ghost use Rattle.cli_questions.specs.Objects as spec;
 ghost use Rattle.cli_questions.specs.Objects.{verdict_status};
 ghost use Rattle.cli_questions.specs.PrivateAnswering.{IsSound, TriesToPrintObject};
-ghost use Rattle.cli_questions.specs.Questions.{asked_of};
+ghost use Rattle.cli_questions.specs.Questions.{asked_of, file_in};
 
 use crate::answering::Asked;
 use crate::notes::{no_revision_note, proposal_text_note, refusal_note, text_note};
 use crate::printing::{
-    changes_note, mount_in, name_in, print_site, print_text, print_why, prints_all,
+    changes_note, name_in, print_site, print_text, print_why, prints_all,
 };
 use cli_desk::View;
 use cli_desk::desks::CopiedDesk;
+use cli_desk::refusal_lines::refused_status;
 use cli_output::failure::Failure;
 use cli_output::printed::Printed;
 use cli_verdict::{changes_status, object_line};
@@ -55,12 +56,7 @@ pub(crate) fn print_object(
 {
     match answer {
         Answer::Verdict(policy, verdict) => print_verdict_object(alloc, policy, &verdict),
-        Answer::Why(view, reasons) => print_why(
-            alloc,
-            mount_in(asked.printer),
-            view,
-            reasons.as_str(),
-        ),
+        Answer::Why(view, reasons) => print_why(alloc, asked.printer, view, reasons.as_str()),
         Answer::Listing(policy, listing) => print_text(
             alloc,
             listing_line(alloc, asked.question, policy, listing.as_slice()),
@@ -80,22 +76,12 @@ pub(crate) fn print_object(
                 log_object(alloc, name_in(asked.question), revisions.as_slice()),
             ),
         ),
-        Answer::Proposal(proposal) => print_proposal_object(
-            alloc,
-            name_in(asked.question),
-            proposal,
-        ),
-        Answer::NoRevision => {
-            let note = no_revision_note(alloc, asked.question)?;
-            refused(alloc, Refused::NoRevision, note)
-        }
+        Answer::Proposal(proposal) => print_proposal_object(alloc, asked.question, proposal),
+        Answer::NoRevision => print_no_revision(alloc, asked),
         Answer::Files(files) => print_text(alloc, line_of(alloc, files_object(alloc, &files))),
         Answer::Foreseen(foreseen) => print_changes_object(alloc, desk, asked, &foreseen),
         Answer::Site(site) => print_site(alloc, asked.printer, true, &site),
-        Answer::Refused(refusal) => {
-            let note = refusal_note(alloc, desk, asked, &refusal)?;
-            refused(alloc, Refused::Edit(refusal), note)
-        }
+        Answer::Refused(refusal) => print_refusal(alloc, desk, asked, refusal),
     }
 }
 
@@ -184,9 +170,14 @@ fn print_revision_object(alloc: Global, name: &str, text: &FileText) -> Result<P
 }
 
 /// Prints the proposal of a file.
-fn print_proposal_object(alloc: Global, name: &str, proposal: &Proposal) -> Result<Printed, Failure>
-    ensures { PrintsText 0 (data_line (proposal_data name.now proposal.now)) result }
+fn print_proposal_object(
+    alloc: Global,
+    question: Question<'_>,
+    proposal: &Proposal,
+) -> Result<Printed, Failure>
+    ensures { PrintsText 0 (data_line (proposal_data (file_in (question_of question.entry)) proposal.now)) result }
 {
+    let name = name_in(question);
     let note = proposal_text_note(alloc, name, proposal)?;
     let line = line_of(alloc, proposal_body(alloc, name, proposal))?;
     Ok(Printed {
@@ -194,6 +185,30 @@ fn print_proposal_object(alloc: Global, name: &str, proposal: &Proposal) -> Resu
         text: line,
         note,
     })
+}
+
+/// Prints that the desk has nothing of what is asked.
+fn print_no_revision(
+    alloc: Global,
+    asked: Asked<'_>,
+) -> Result<Printed, Failure>
+    ensures { TriesToPrintObject (asked_of asked.entry) NoRevision result }
+{
+    let note = no_revision_note(alloc, asked.question)?;
+    refused(alloc, Refused::NoRevision, note)
+}
+
+/// Prints why the edit that was to be foreseen is refused.
+fn print_refusal(
+    alloc: Global,
+    desk: &CopiedDesk,
+    asked: Asked<'_>,
+    refusal: Refusal,
+) -> Result<Printed, Failure>
+    ensures { TriesToPrintObject (asked_of asked.entry) (RefusedBy refusal.entry) result }
+{
+    let note = refusal_note(alloc, desk, asked, &refusal)?;
+    refused(alloc, Refused::Edit(refusal), note)
 }
 
 /// Prints a refusal. Standard error says this beside it.
@@ -204,17 +219,6 @@ fn refused(alloc: Global, why: Refused, note: String) -> Result<Printed, Failure
     match line_of(alloc, refused_object(alloc, &why)) {
         Ok(text) => Ok(Printed { status, text, note }),
         Err(_) => Err(Failure::Memory),
-    }
-}
-
-/// Returns the exit status of a refusal, which is that of its line.
-fn refused_status(why: &Refused) -> u8
-    ensures { result ≡ lines.refused_status why.now }
-{
-    match why {
-        Refused::Edit(Refusal::Fault(_)) => 3,
-        Refused::Edit(_) | Refused::NoRevision | Refused::OtherProposal => 1,
-        Refused::Store | Refused::Schema | Refused::Memory => 4,
     }
 }
 

@@ -68,12 +68,7 @@ fn print_lines(
 {
     match answer {
         Answer::Verdict(policy, verdict) => print_verdict(alloc, policy, &verdict),
-        Answer::Why(view, reasons) => print_why(
-            alloc,
-            mount_in(asked.printer),
-            view,
-            reasons.as_str(),
-        ),
+        Answer::Why(view, reasons) => print_why(alloc, asked.printer, view, reasons.as_str()),
         Answer::Listing(policy, listing) => {
             print_text(alloc, listing_text(alloc, policy, listing.as_slice()))
         }
@@ -147,7 +142,7 @@ fn print_verdict(alloc: Global, policy: &Policy, verdict: &Verdict<'_>) -> Resul
 }
 
 /// Returns the question of a client whether it may mount a directory, if the printer has it.
-pub(crate) fn mount_in<'a>(printer: Printer<'a>) -> Option<MountQuestion<'a>>
+fn mount_in<'a>(printer: Printer<'a>) -> Option<MountQuestion<'a>>
     ensures { option_map mount_question_of result ≡ mount_in (printer_of printer.entry) }
 {
     match printer {
@@ -159,13 +154,13 @@ pub(crate) fn mount_in<'a>(printer: Printer<'a>) -> Option<MountQuestion<'a>>
 /// Prints a verdict and why, as `try --why` does, to whom asks this; and else why alone.
 pub(crate) fn print_why(
     alloc: Global,
-    question: Option<MountQuestion<'_>>,
+    printer: Printer<'_>,
     view: &View,
     reasons: &str,
 ) -> Result<Printed, Failure>
-    ensures { TriesToPrintWhy (option_map mount_question_of question.entry) view.now reasons.now result }
+    ensures { TriesToPrintWhy (mount_in (printer_of printer.entry)) view.now reasons.now result }
 {
-    match question {
+    match mount_in(printer) {
         Some(question) => print_reasons(alloc, view, question, reasons),
         None => print_text(alloc, shown_lines(alloc, reasons)),
     }

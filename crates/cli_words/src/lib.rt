@@ -1,5 +1,5 @@
-//! The table of the commands: the command line that `clap` parses, what it finds, and what words mean that are more
-//! than texts.
+//! The table of the commands. The command line that `clap` parses is made of it; the crate says which command and which
+//! words were found, and reads words such as numbers, addresses and credentials.
 //!
 //! ```text
 //! let matches = command_line(alloc)?.try_get_matches_from(&["exportdesk", "log", "site.db", "hosts"])?;

@@ -1,4 +1,4 @@
-//! The part of the report page on one file system, made of what is found of it, but for its groups of directories.
+//! What the report page says of one file system. (What it says of a group of directories is in desk_report_places.)
 //!
 //! ```text
 //! let notes = notes_of(alloc, lines_in(lines, fs), text)?;        // line 4: grants read-only for everybody; line 5: not read

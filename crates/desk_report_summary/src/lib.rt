@@ -1,4 +1,4 @@
-//! The summary of the page of a report, made of what is found of a site; and what the words of the page tell of each line that stands out.
+//! The summary of a report's page, and what the page says of each line that stands out.
 //!
 //! ```text
 //! let lines = lines_of_site(alloc, policy, systems.as_slice(), reasons.as_slice())?;

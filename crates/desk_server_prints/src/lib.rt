@@ -1,4 +1,4 @@
-//! What standard error says of mountd(8) beside an answer: what it grants otherwise, and which lines it may leave out.
+//! The notes on standard error that say where mountd(8) grants otherwise, and which lines it may leave out.
 //!
 //! ```text
 //! // with `/a/x 10.0.0.5` and `/a/y 10.0.0.5`:

@@ -1,6 +1,5 @@
 -- An object is printed as the answer that it is.
 use Rattle.std.proofs.Common.{◌≡◌, ℕ, IfOk, List, None, ap, map, subst}
-use Rattle.std.specs.Option.{option_map}
 use Rattle.std.specs.String.{string_bytes}
 use Rattle.serde_json.specs.Written.{compact_text}
 use Rattle.desk_policy.specs.Policy.{Content}
@@ -21,10 +20,9 @@ use Rattle.desk_json.specs.Files.{files_data}
 use Rattle.desk_json.specs.Log.{log_data}
 use Rattle.cli_output.specs.Printed.{PrintsText}
 use Rattle.cli_verdict.specs.ObjectLine.{data_line}
-use Rattle.cli_verdict.specs.TryText.{mount_question_of}
 use Rattle.cli_questions.specs.Objects.{listing_line, ranges_line, verdict_status}
 use Rattle.cli_questions.specs.PrivateAnswering.{TriesToPrintWhy}
-use Rattle.cli_questions.specs.Questions.{asked_of, file_in}
+use Rattle.cli_questions.specs.Questions.{asked_of, file_in, mount_in, printer_of}
 use Rattle.cli_questions.proofs.DeskAnswers.{site_told, text_told, why_told}
 use Rattle.cli_questions.proofs.objects.print_object.Goals as goal
 
@@ -36,9 +34,9 @@ returns-in-Verdict c =
 
 pub returns-in-Why : goal.returns-in-Why
 returns-in-Why c =
-    why_told (asked_of c.args.asked) (answer_of (λ content. content) c.args.answer) c.in-Why.view.now (string_bytes c.in-Why.reasons) (option_map mount_question_of c.mount_in.result) c.print_why.result
-    (ap (λ (answer : LentAnswer Content). answer_of (λ content. content) answer) c.in-Why.is) c.mount_in.ensures
-    (subst (λ (reasons : List ℕ). TriesToPrintWhy (option_map mount_question_of c.mount_in.result) c.in-Why.view.now reasons c.print_why.result) c.as_str.ensures.value c.print_why.ensures)
+    why_told (asked_of c.args.asked) (answer_of (λ content. content) c.args.answer) c.in-Why.view.now (string_bytes c.in-Why.reasons) c.print_why.result
+    (ap (λ (answer : LentAnswer Content). answer_of (λ content. content) answer) c.in-Why.is)
+    (subst (λ (reasons : List ℕ). TriesToPrintWhy (mount_in (printer_of c.args.asked.printer)) c.in-Why.view.now reasons c.print_why.result) c.as_str.ensures.value c.print_why.ensures)
 
 pub returns-in-Listing : goal.returns-in-Listing
 returns-in-Listing c =
@@ -83,10 +81,8 @@ returns-in-Revisions c =
 
 pub returns-in-Proposal : goal.returns-in-Proposal
 returns-in-Proposal c =
-    let file : List ℕ = file_in (question_of c.args.asked.question) in
-    text_told (asked_of c.args.asked) (answer_of (λ content. content) c.args.answer) (ProposalIs c.in-Proposal.proposal.now) 0 (data_line (proposal_data file c.in-Proposal.proposal.now)) c.print_proposal_object.result
-    (ap (λ (answer : LentAnswer Content). answer_of (λ content. content) answer) c.in-Proposal.is) (λ printed prints. prints)
-    (subst (λ (name : List ℕ). PrintsText 0 (data_line (proposal_data name c.in-Proposal.proposal.now)) c.print_proposal_object.result) c.name_in-in-Proposal.ensures c.print_proposal_object.ensures)
+    text_told (asked_of c.args.asked) (answer_of (λ content. content) c.args.answer) (ProposalIs c.in-Proposal.proposal.now) 0 (data_line (proposal_data (file_in (question_of c.args.asked.question)) c.in-Proposal.proposal.now)) c.print_proposal_object.result
+    (ap (λ (answer : LentAnswer Content). answer_of (λ content. content) answer) c.in-Proposal.is) (λ printed prints. prints) c.print_proposal_object.ensures
 
 pub returns-in-Files : goal.returns-in-Files
 returns-in-Files c =

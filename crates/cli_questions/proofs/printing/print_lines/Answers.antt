@@ -1,6 +1,5 @@
 -- A text is printed as the answer that it is.
 use Rattle.std.proofs.Common.{◌≡◌, ℕ, IfOk, List, ap, map, subst}
-use Rattle.std.specs.Option.{option_map}
 use Rattle.std.specs.String.{string_bytes}
 use Rattle.desk_policy.specs.ListingPrints.{listing_text}
 use Rattle.desk_policy.specs.Policy.{Content}
@@ -16,9 +15,8 @@ use Rattle.desk_service.specs.Sites.{site_of}
 use Rattle.desk_service.specs.declared.questions.Answer.{Answer as LentAnswer}
 use Rattle.cli_questions.specs.FileLines.{files_text}
 use Rattle.cli_questions.specs.PrivateAnswering.{TriesToPrintWhy}
-use Rattle.cli_questions.specs.Questions.{asked_of, exports_text, file_in, printer_of}
+use Rattle.cli_questions.specs.Questions.{asked_of, exports_text, file_in, mount_in, printer_of}
 use Rattle.cli_questions.specs.RevisionLines.{log_text}
-use Rattle.cli_verdict.specs.TryText.{mount_question_of}
 use Rattle.cli_questions.proofs.DeskAnswers.{site_printed, text_printed, why_printed}
 use Rattle.cli_questions.proofs.printing.print_lines.Goals as goal
 
@@ -61,9 +59,9 @@ returns-in-Files c =
 
 pub returns-in-Why : goal.returns-in-Why
 returns-in-Why c =
-    why_printed (asked_of c.args.asked) (answer_of (λ content. content) c.args.answer) c.in-Why.view.now (string_bytes c.in-Why.reasons) (option_map mount_question_of c.mount_in.result) c.print_why.result
-    (ap (λ (answer : LentAnswer Content). answer_of (λ content. content) answer) c.in-Why.is) c.mount_in.ensures
-    (subst (λ (reasons : List ℕ). TriesToPrintWhy (option_map mount_question_of c.mount_in.result) c.in-Why.view.now reasons c.print_why.result) c.as_str.ensures.value c.print_why.ensures)
+    why_printed (asked_of c.args.asked) (answer_of (λ content. content) c.args.answer) c.in-Why.view.now (string_bytes c.in-Why.reasons) c.print_why.result
+    (ap (λ (answer : LentAnswer Content). answer_of (λ content. content) answer) c.in-Why.is)
+    (subst (λ (reasons : List ℕ). TriesToPrintWhy (mount_in (printer_of c.args.asked.printer)) c.in-Why.view.now reasons c.print_why.result) c.as_str.ensures.value c.print_why.ensures)
 
 pub returns-in-Site : goal.returns-in-Site
 returns-in-Site c =
