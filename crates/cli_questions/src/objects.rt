@@ -23,9 +23,7 @@ ghost use Rattle.cli_questions.specs.Questions.{asked_of, file_in};
 
 use crate::answering::Asked;
 use crate::notes::{no_revision_note, proposal_text_note, refusal_note, text_note};
-use crate::printing::{
-    changes_note, name_in, print_site, print_text, print_why, prints_all,
-};
+use crate::printing::{changes_note, name_in, print_site, print_text, print_why, prints_all};
 use cli_desk::View;
 use cli_desk::desks::CopiedDesk;
 use cli_desk::refusal_lines::refused_status;
@@ -188,10 +186,7 @@ fn print_proposal_object(
 }
 
 /// Prints that the desk has nothing of what is asked.
-fn print_no_revision(
-    alloc: Global,
-    asked: Asked<'_>,
-) -> Result<Printed, Failure>
+fn print_no_revision(alloc: Global, asked: Asked<'_>) -> Result<Printed, Failure>
     ensures { TriesToPrintObject (asked_of asked.entry) NoRevision result }
 {
     let note = no_revision_note(alloc, asked.question)?;

@@ -7,7 +7,7 @@ use Rattle.cli_output.specs.declared.failure.Failure.{Failure}
 use Rattle.cli_files.specs.Files.{HasText, LacksText, ReadsIfThere}
 use Rattle.cli_files.proofs.FilesInTurn.{lacks_unknown, text_unknown}
 use Rattle.cli_texts.specs.CheckCommand.{ReadsCustodians}
-use Rattle.cli_texts.specs.declared.subject.SiteFolder.{SiteFolder}
+use Rattle.cli_sources.specs.declared.subject.SiteFolder.{SiteFolder}
 
 module _ {A : Type 0} where
   -- what is read of their path says what they are

@@ -22,15 +22,15 @@ use Rattle.cli_files.specs.declared.folder_systems.FolderSystems.TheVariants as 
 use Rattle.cli_words.specs.Words.{After, is_set}
 use Rattle.cli_texts.specs.FindingsForm.{ReportsBy}
 use Rattle.cli_texts.specs.IgnoredNumbers.{ReadsIgnored}
-use Rattle.cli_texts.specs.Subject.{ReadsSubject, places}
-use Rattle.cli_texts.specs.Systems.{AfterSystems, files_of}
-use Rattle.cli_texts.specs.TableFiles.{ReadsSources, input_count}
-use Rattle.cli_texts.specs.WholeFiles.{whole_files, whole_list}
+use Rattle.cli_sources.specs.Subject.{ReadsSubject, places}
+use Rattle.cli_sources.specs.Systems.{AfterSystems, files_of}
+use Rattle.cli_sources.specs.TableFiles.{ReadsSources, input_count}
+use Rattle.cli_sources.specs.WholeFiles.{whole_files, whole_list}
 use Rattle.cli_texts.specs.declared.check_site_files.CheckAsked.{CheckAsked}
 use Rattle.cli_texts.specs.declared.findings_form.FindingsForm.{FindingsForm}
-use Rattle.cli_texts.specs.declared.subject.SiteFolder.{SiteFolder}
-use Rattle.cli_texts.specs.declared.subject.Subject.{Subject}
-use Rattle.cli_texts.specs.declared.subject.Subject.TheVariants.{File, Site}
+use Rattle.cli_sources.specs.declared.subject.SiteFolder.{SiteFolder}
+use Rattle.cli_sources.specs.declared.subject.Subject.{Subject}
+use Rattle.cli_sources.specs.declared.subject.Subject.TheVariants.{File, Site}
 
 -- the form in which the words ask for the findings
 abbrev pub form_of : List Row → FindingsForm

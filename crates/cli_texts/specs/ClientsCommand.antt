@@ -13,9 +13,9 @@ use Rattle.cli_words.specs.Values.{AnswersArgument}
 use Rattle.cli_verdict.specs.Ranges.{PrintsRanges}
 use Rattle.cli_words.specs.Words.{After, AnswersBy, is_set}
 use Rattle.cli_texts.specs.FaultyTexts.{AnswersOrFault}
-use Rattle.cli_texts.specs.Subject.{ReadsSubject, places, word_at}
-use Rattle.cli_texts.specs.declared.subject.Subject.{Subject}
-use Rattle.cli_texts.specs.WholeQuestion.{AnswersWhole}
+use Rattle.cli_sources.specs.Subject.{ReadsSubject, places, word_at}
+use Rattle.cli_sources.specs.declared.subject.Subject.{Subject}
+use Rattle.cli_sources.specs.WholeQuestion.{AnswersWhole}
 use Rattle.cli_texts.specs.WholeTables.{Writes, policy_of}
 
 -- The ranges that a path has under the policy that an exports text is read as are printed, by the rule of mountd(8) if that is asked, and

@@ -17,12 +17,12 @@ use Rattle.cli_output.specs.declared.printed.Printed.{Printed}
 use Rattle.cli_verdict.specs.Changes.{changes_status}
 use Rattle.cli_verdict.specs.ObjectLine.{data_line}
 use Rattle.cli_words.specs.Words.{After, is_set}
-use Rattle.cli_texts.specs.Subject.{ReadsSubject, places}
-use Rattle.cli_texts.specs.TwoQuestion.{AnswersTwo}
-use Rattle.cli_texts.specs.TwoFiles.{whole_first, whole_second}
+use Rattle.cli_sources.specs.Subject.{ReadsSubject, places}
+use Rattle.cli_sources.specs.TwoQuestion.{AnswersTwo}
+use Rattle.cli_sources.specs.TwoFiles.{whole_first, whole_second}
 use Rattle.cli_texts.specs.FaultyTexts.{AnswersOrFault, PrintsFault}
 use Rattle.cli_texts.specs.WholeTables.{Writes, policy_of}
-use Rattle.cli_texts.specs.declared.two_files.TwoSources.{TwoSources}
+use Rattle.cli_sources.specs.declared.two_files.TwoSources.{TwoSources}
 
 -- what changes from a policy to another is told by a report, as it is shown; the status is 0 if nothing matters to a client
 pub record TellsReport (before after : Content) (all : Bool) (status : ℕ) (text : List ℕ) : Type 0 where

@@ -16,9 +16,9 @@ use Rattle.cli_words.specs.Values.{AnswersArgument}
 use Rattle.cli_words.specs.Words.{After, AnswersBy}
 use Rattle.cli_texts.specs.FaultyTexts.{AnswersOrFault}
 use Rattle.cli_texts.specs.Printing.{PrintsAlone}
-use Rattle.cli_texts.specs.Subject.{ReadsSubject, places, word_at}
-use Rattle.cli_texts.specs.declared.subject.Subject.{Subject}
-use Rattle.cli_texts.specs.WholeQuestion.{AnswersWhole}
+use Rattle.cli_sources.specs.Subject.{ReadsSubject, places, word_at}
+use Rattle.cli_sources.specs.declared.subject.Subject.{Subject}
+use Rattle.cli_sources.specs.WholeQuestion.{AnswersWhole}
 use Rattle.cli_texts.specs.WholeTables.{Writes, policy_of}
 
 -- the listing of a client by the policy that an exports text is read as is printed, with the status 0, and standard error says nothing

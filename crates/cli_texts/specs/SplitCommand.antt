@@ -13,7 +13,7 @@ use Rattle.cli_output.specs.declared.printed.Printed.{Printed}
 use Rattle.cli_words.specs.Words.{After, ByWord}
 use Rattle.cli_texts.specs.Printing.{PrintsAlone}
 use Rattle.cli_texts.specs.SplitText.{split_answer}
-use Rattle.cli_texts.specs.TableFiles.{IsShort, ReadsSources}
+use Rattle.cli_sources.specs.TableFiles.{IsShort, ReadsSources}
 use Rattle.cli_texts.specs.declared.split_command.SplitSources.{SplitSources}
 use Rattle.cli_texts.specs.declared.split_command.SplitTexts.{SplitTexts}
 

@@ -11,8 +11,8 @@ use Rattle.cli_output.specs.declared.printed.Printed.{Printed}
 use Rattle.cli_words.specs.Words.{After}
 use Rattle.cli_texts.specs.FaultyTexts.{AnswersOrFault}
 use Rattle.cli_texts.specs.Printing.{PrintsAlone}
-use Rattle.cli_texts.specs.Subject.{ReadsSubject, places}
-use Rattle.cli_texts.specs.WholeQuestion.{AnswersWhole}
+use Rattle.cli_sources.specs.Subject.{ReadsSubject, places}
+use Rattle.cli_sources.specs.WholeQuestion.{AnswersWhole}
 use Rattle.cli_texts.specs.WholeTables.{Writes, policy_of}
 
 -- all exports of the policy that an exports text is read as are printed with their terms, with the status 0, and standard error says

@@ -11,12 +11,12 @@ use Rattle.cli_expectations.specs.ReportForm.{GivesForm}
 use Rattle.cli_expectations.specs.TestedPolicy.{Expected, PrintsTested}
 use Rattle.cli_expectations.specs.declared.expectations_file.ReportForm.{ReportForm}
 use Rattle.cli_words.specs.Words.{After, is_set}
-use Rattle.cli_texts.specs.Subject.{ReadsSubject, places}
+use Rattle.cli_sources.specs.Subject.{ReadsSubject, places}
 use Rattle.cli_texts.specs.FaultyTexts.{AnswersOrFault}
-use Rattle.cli_texts.specs.TwoQuestion.{AnswersTwo}
-use Rattle.cli_texts.specs.TwoFiles.{whole_first}
+use Rattle.cli_sources.specs.TwoQuestion.{AnswersTwo}
+use Rattle.cli_sources.specs.TwoFiles.{whole_first}
 use Rattle.cli_texts.specs.WholeTables.{Writes, policy_of}
-use Rattle.cli_texts.specs.declared.two_files.TwoSources.{TwoSources}
+use Rattle.cli_sources.specs.declared.two_files.TwoSources.{TwoSources}
 
 -- the second text, as one of expectations of the first
 abbrev pub expected_in : ReportForm → TwoSources → Expected

@@ -17,15 +17,15 @@ use Rattle.cli_words.specs.Values.{AnswersOwn, IsBadArgument, IsRequest, own_ans
 use Rattle.cli_words.specs.Words.{After, AnswersBy, is_set}
 use Rattle.cli_words.specs.declared.values.Request.{Request}
 use Rattle.cli_texts.specs.FaultyTexts.{AnswersOrFault}
-use Rattle.cli_texts.specs.Subject.{ReadsSubject, places, word_at}
-use Rattle.cli_texts.specs.declared.subject.Subject.{Subject}
+use Rattle.cli_sources.specs.Subject.{ReadsSubject, places, word_at}
+use Rattle.cli_sources.specs.declared.subject.Subject.{Subject}
 use Rattle.cli_texts.specs.declared.try_command.Asked as code
 use Rattle.cli_texts.specs.declared.try_command.TryQuestion.{TryQuestion}
 use Rattle.cli_verdict.specs.Asking.{asking_in}
 use Rattle.cli_verdict.specs.TryText.{IsAnswerBy, MountQuestion, PrintsTried}
 use Rattle.cli_verdict.specs.declared.asking.Asking.{Asking}
 use Rattle.cli_verdict.specs.declared.try_text.Tried.{Tried}
-use Rattle.cli_texts.specs.WholeQuestion.{AnswersWhole}
+use Rattle.cli_sources.specs.WholeQuestion.{AnswersWhole}
 use Rattle.cli_texts.specs.WholeTables.{policy_of}
 
 -- the question of a request, of a client with this credential, if it is given, by the rule that is asked, and as JSON, if that is asked

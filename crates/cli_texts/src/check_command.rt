@@ -8,18 +8,20 @@ ghost use Rattle.desk_findings.specs.CheckFaults.{AreReadable};
 ghost use Rattle.desk_findings.specs.Finding.{HaveSlices};
 ghost use Rattle.cli_words.specs.Words.{rows_in};
 ghost use Rattle.cli_texts.specs.CheckCommand.{AnswersByFiles, AnswersCheck, AnswersCheckBy, AnswersGiven, AnswersHeard, AnswersSubject, AnswersTexts, PrintsFindings, asks_opinions, beside_sarif, form_of};
-ghost use Rattle.cli_texts.specs.TableFiles.{named};
-ghost use Rattle.cli_texts.specs.WholeFiles.{file_list};
+ghost use Rattle.cli_sources.specs.TableFiles.{named};
+ghost use Rattle.cli_sources.specs.WholeFiles.{file_list};
 
 use crate::check_site_files::check_site;
 use crate::findings_form::{FindingsForm, report_by};
 use crate::ignored_numbers::{lend_numbers, read_ignored};
-use crate::subject::{Places, Subject, subject_of};
-use crate::systems::read_systems;
-use crate::whole_files::{WholeFiles, read_whole_texts, whole_files, whole_inputs, whole_sources};
 use clap::ArgMatches;
 use cli_output::failure::Failure;
 use cli_output::printed::Printed;
+use cli_sources::subject::{Places, Subject, subject_of};
+use cli_sources::systems::read_systems;
+use cli_sources::whole_files::{
+    WholeFiles, read_whole_texts, whole_files, whole_inputs, whole_sources,
+};
 use cli_words::words::{given, is_set};
 use desk_check::CheckForm;
 use desk_findings::{Gathered, WholeSources, gather};

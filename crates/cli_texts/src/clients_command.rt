@@ -7,12 +7,12 @@ ghost use Rattle.cli_texts.specs.ClientsCommand.{AnswersClients, AnswersPath, An
 ghost use Rattle.cli_texts.specs.WholeTables.{GivesOrFault, policy_of};
 
 use crate::faulty_texts::answer_error;
-use crate::subject::{Places, Subject, subject_of, word_of};
-use crate::whole_question::{WholeQuestion, answer_whole};
 use crate::whole_tables::view_of;
 use clap::ArgMatches;
 use cli_output::failure::Failure;
 use cli_output::printed::Printed;
+use cli_sources::subject::{Places, Subject, subject_of, word_of};
+use cli_sources::whole_question::{WholeQuestion, answer_whole};
 use cli_verdict::print_ranges;
 use cli_words::values::read_path;
 use cli_words::words::is_set;

@@ -12,14 +12,14 @@ ghost use Rattle.cli_texts.specs.WholeTables.{GivesOrFault, policy_of};
 
 use crate::View;
 use crate::faulty_texts::answer_error;
-use crate::subject::{Places, subject_of};
-use crate::two_files::TwoSources;
-use crate::two_question::{TwoNames, TwoQuestion, answer_two};
 use crate::whole_tables::view_of;
 use clap::ArgMatches;
 use cli_output::failure::Failure;
 use cli_output::printed::Printed;
 use cli_output::shown_lines::shown_lines;
+use cli_sources::subject::{Places, subject_of};
+use cli_sources::two_files::TwoSources;
+use cli_sources::two_question::{TwoNames, TwoQuestion, answer_two};
 use cli_verdict::{changes_status, object_line};
 use cli_words::words::is_set;
 use desk_findings::{WholeSources, read_sources};

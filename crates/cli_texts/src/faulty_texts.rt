@@ -8,9 +8,9 @@ ghost use Rattle.desk_findings.specs.CheckFaults.{AreReadable};
 ghost use Rattle.cli_texts.specs.FaultyTexts.{AnswersError, PrintsThisFault, TellsFault};
 
 use crate::fault_line::fault_text;
-use crate::printing::end_line;
 use cli_output::failure::Failure;
 use cli_output::printed::Printed;
+use cli_sources::line_ends::end_line;
 use desk_check::{fault_json, tell_fault};
 use desk_findings::WholeSources;
 use desk_policy::SiteFault;

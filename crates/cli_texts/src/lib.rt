@@ -18,16 +18,9 @@ pub mod lists_command;
 mod printing;
 pub mod split_command;
 mod split_text;
-mod subject;
-mod systems;
-mod table_files;
 pub mod terms_command;
 pub mod test_command;
 pub mod try_command;
-mod two_files;
-mod two_question;
-mod whole_files;
-mod whole_question;
 mod whole_tables;
 
 use desk_index::Index;

@@ -1,11 +1,10 @@
 //! A text that is printed, if standard error says nothing beside it.
 
-ghost use Rattle.std.specs.Prelude.{◌≡◌, ◌++◌, ◌∷◌, [], IfOk};
 ghost use Rattle.std.specs.String.{string_bytes};
 ghost use Rattle.cli_texts.specs.Printing.{PrintsAlone};
 
 use cli_output::printed::Printed;
-use std::alloc::{AllocError, Global};
+use std::alloc::Global;
 
 /// Prints a text in whole lines, with this exit status.
 pub fn print_alone(alloc: Global, status: u8, text: String) -> Printed
@@ -16,13 +15,4 @@ pub fn print_alone(alloc: Global, status: u8, text: String) -> Printed
         text,
         note: String::new(alloc),
     }
-}
-
-/// Ends a line.
-pub fn end_line(line: String) -> Result<String, AllocError>
-    ensures { IfOk result (λ ended. string_bytes ended ≡ string_bytes line ++ 10 ∷ []) }
-{
-    let mut line = line;
-    line.push('\n')?;
-    Ok(line)
 }

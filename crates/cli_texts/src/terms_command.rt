@@ -8,12 +8,12 @@ ghost use Rattle.cli_texts.specs.WholeTables.{GivesOrFault, policy_of};
 
 use crate::faulty_texts::answer_error;
 use crate::printing::print_alone;
-use crate::subject::{Places, subject_of};
-use crate::whole_question::{WholeQuestion, answer_whole};
 use crate::whole_tables::view_of;
 use clap::ArgMatches;
 use cli_output::failure::Failure;
 use cli_output::printed::Printed;
+use cli_sources::subject::{Places, subject_of};
+use cli_sources::whole_question::{WholeQuestion, answer_whole};
 use desk_findings::{WholeSources, read_sources};
 use desk_policy::{PolicyView, SiteFault, all_terms};
 use desk_tables::FileSystems;

@@ -10,11 +10,11 @@ ghost use Rattle.cli_texts.specs.TryCommand.{AnswersRequest, AnswersSubject, Ans
 ghost use Rattle.cli_texts.specs.WholeTables.{GivesOrFault, policy_of};
 
 use crate::faulty_texts::answer_error;
-use crate::subject::{Places, Subject, subject_of, word_of};
-use crate::whole_question::{WholeQuestion, answer_whole};
 use clap::ArgMatches;
 use cli_output::failure::Failure;
 use cli_output::printed::Printed;
+use cli_sources::subject::{Places, Subject, subject_of, word_of};
+use cli_sources::whole_question::{WholeQuestion, answer_whole};
 use cli_verdict::try_text::try_text;
 use cli_verdict::{Asking, MountQuestion, print_tried, read_asking};
 use cli_words::values::{Request, read_credential, read_credential_with, read_request};

@@ -5,9 +5,9 @@ use Rattle.std.specs.Option.{option_map}
 use Rattle.cli_words.specs.Words.{rows_in}
 use Rattle.cli_texts.specs.CheckCommand.{AnswersTexts, asks_opinions}
 use Rattle.cli_texts.specs.declared.findings_form.FindingsForm.{FindingsForm}
-use Rattle.cli_texts.specs.TableFiles.{named}
-use Rattle.cli_texts.specs.WholeFiles.{file_list, whole_list, whole_texts}
-use Rattle.cli_texts.proofs.FilesInTurn.{lent}
+use Rattle.cli_sources.specs.TableFiles.{named}
+use Rattle.cli_sources.specs.WholeFiles.{file_list, whole_list, whole_texts}
+use Rattle.cli_sources.proofs.FilesInTurn.{lent}
 use Rattle.cli_texts.proofs.check_command.check_files.Goals as goal
 
 pub returns-in_err-texts : goal.returns-in_err-texts

@@ -2,9 +2,9 @@
 use Rattle.std.proofs.Common.{false, map}
 use Rattle.std.proofs.lemmas.Result.{err_from_is_err_and}
 use Rattle.cli_words.specs.Words.{rows_in}
-use Rattle.cli_texts.specs.TableFiles.{input_count, named}
-use Rattle.cli_texts.specs.WholeFiles.{file_list}
-use Rattle.cli_texts.proofs.AskedSystems.{with_fault, with_table, without}
+use Rattle.cli_sources.specs.TableFiles.{input_count, named}
+use Rattle.cli_sources.specs.WholeFiles.{file_list}
+use Rattle.cli_sources.proofs.AskedSystems.{with_fault, with_table, without}
 use Rattle.cli_texts.proofs.check_command.check_given.Goals as goal
 
 pub returns-in_err-systems : goal.returns-in_err-systems

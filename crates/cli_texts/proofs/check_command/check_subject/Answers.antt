@@ -6,9 +6,9 @@ use Rattle.cli_output.specs.declared.failure.Failure.{Failure}
 use Rattle.cli_output.specs.declared.printed.Printed.{Printed}
 use Rattle.cli_words.specs.Words.{rows_in}
 use Rattle.cli_texts.specs.CheckCommand.{AnswersGiven, AnswersSubject}
-use Rattle.cli_texts.specs.WholeFiles.{whole_files}
-use Rattle.cli_texts.specs.declared.subject.Subject.{Subject}
-use Rattle.cli_texts.specs.declared.subject.Subject.TheVariants.{File, Site}
+use Rattle.cli_sources.specs.WholeFiles.{whole_files}
+use Rattle.cli_sources.specs.declared.subject.Subject.{Subject}
+use Rattle.cli_sources.specs.declared.subject.Subject.TheVariants.{File, Site}
 use Rattle.cli_texts.proofs.check_command.check_subject.Goals as goal
 
 of_file : (rows : List Row) (ignored : Option (List ℕ)) (known : Option (List ℕ)) (result : Result Printed Failure) (files : List (List ℕ × Option (List ℕ))) (subject : Subject) (file : Bor (List ℕ))

@@ -2,9 +2,9 @@
 use Rattle.std.proofs.Common.{Err, Ok, map, refl}
 use Rattle.std.proofs.lemmas.Result.{err_from_is_err_and}
 use Rattle.desk_findings.specs.CheckFolder.{Listed, Mounted}
-use Rattle.cli_texts.specs.TableFiles.{named}
-use Rattle.cli_texts.specs.WholeFiles.{file_list, whole_list, whole_texts}
-use Rattle.cli_texts.proofs.FilesInTurn.{lent}
+use Rattle.cli_sources.specs.TableFiles.{named}
+use Rattle.cli_sources.specs.WholeFiles.{file_list, whole_list, whole_texts}
+use Rattle.cli_sources.proofs.FilesInTurn.{lent}
 use Rattle.cli_texts.proofs.check_site_files.check_folder.Goals as goal
 
 pub returns-in_err-texts : goal.returns-in_err-texts

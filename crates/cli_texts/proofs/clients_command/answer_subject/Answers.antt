@@ -3,7 +3,7 @@ use Rattle.std.proofs.Common.{Bool, codes, Err, Ok, refl, subst}
 use Rattle.std.proofs.lemmas.Result.{err_from_is_err_and}
 use Rattle.cli_words.specs.Words.{is_set, rows_in}
 use Rattle.cli_texts.specs.ClientsCommand.{AnswersPath}
-use Rattle.cli_texts.specs.WholeQuestion.{AnswersWhole}
+use Rattle.cli_sources.specs.WholeQuestion.{AnswersWhole}
 use Rattle.cli_texts.proofs.clients_command.answer_subject.Goals as goal
 
 pub returns-in_err-path : goal.returns-in_err-path

@@ -3,7 +3,7 @@ use Rattle.std.proofs.Common.{Bool, Err, Ok, codes, refl, subst}
 use Rattle.std.proofs.lemmas.Result.{err_from_is_err_and}
 use Rattle.cli_words.specs.Words.{is_set, rows_in}
 use Rattle.cli_texts.specs.CompareCommand.{AnswersTexts}
-use Rattle.cli_texts.specs.TwoQuestion.{AnswersTwo}
+use Rattle.cli_sources.specs.TwoQuestion.{AnswersTwo}
 use Rattle.cli_texts.proofs.compare_command.run_compare.Goals as goal
 
 pub returns-in_err-subject : goal.returns-in_err-subject

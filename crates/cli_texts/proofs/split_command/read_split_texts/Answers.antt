@@ -3,7 +3,7 @@ use Rattle.std.proofs.Common.{inl, inr, refl}
 use Rattle.std.proofs.lemmas.Result.{err_from_is_err_and}
 use Rattle.std.specs.String.{string_bytes}
 use Rattle.cli_texts.specs.SplitCommand.{split_files}
-use Rattle.cli_texts.proofs.FilesInTurn.{once}
+use Rattle.cli_sources.proofs.FilesInTurn.{once}
 use Rattle.cli_texts.proofs.split_command.read_split_texts.Goals as goal
 
 pub returns-in_err-filesystems-clause-texts : goal.returns-in_err-filesystems-clause-texts

@@ -2,8 +2,8 @@
 use Rattle.std.proofs.Common.{Err, Ok, refl}
 use Rattle.std.proofs.lemmas.Result.{err_from_is_err_and}
 use Rattle.cli_texts.specs.SplitCommand.{split_files, split_list, split_texts}
-use Rattle.cli_texts.proofs.FilesInTurn.{lent}
-use Rattle.cli_texts.proofs.FoundWords.{by_found}
+use Rattle.cli_sources.proofs.FilesInTurn.{lent}
+use Rattle.cli_sources.proofs.FoundWords.{by_found}
 use Rattle.cli_texts.proofs.split_command.run_split.Goals as goal
 
 pub returns-in_err-texts : goal.returns-in_err-texts

@@ -6,7 +6,7 @@ use Rattle.clap.specs.Words.{first_of}
 use Rattle.desk_tables.specs.declared.filesystems.Mount.{Mount}
 use Rattle.cli_words.specs.Words.{rows_in}
 use Rattle.cli_texts.specs.TryCommand.{AnswersRequest, Asked}
-use Rattle.cli_texts.specs.WholeQuestion.{AnswersWhole}
+use Rattle.cli_sources.specs.WholeQuestion.{AnswersWhole}
 use Rattle.cli_texts.proofs.try_command.answer_subject.Goals as goal
 
 pub returns-in_err-request : goal.returns-in_err-request

@@ -1,0 +1,3 @@
+pub mod AskedSystems
+pub mod FilesInTurn
+pub mod FoundWords

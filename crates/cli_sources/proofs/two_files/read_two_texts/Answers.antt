@@ -1,0 +1,44 @@
+-- The two are read after the tables, and at most one file is standard input.
+use Rattle.std.proofs.Common.{◌∷◌, [], inl, inr, map, refl}
+use Rattle.std.proofs.lemmas.Result.{err_from_is_err_and}
+use Rattle.std.specs.String.{string_bytes}
+use Rattle.cli_sources.specs.TwoFiles.{file_list}
+use Rattle.cli_sources.specs.TableFiles.{named, table_list}
+use Rattle.cli_sources.proofs.FilesInTurn.{fails_before, fails_on, once, reads_on}
+use Rattle.cli_sources.proofs.two_files.read_two_texts.Goals as goal
+
+pub returns-in_err-tables-clause-texts : goal.returns-in_err-tables-clause-texts
+returns-in_err-tables-clause-texts g c =
+    let p = err_from_is_err_and c.from_residual.result c.from_residual.ensures.1 in
+    let tables = map named (table_list c.args.files.whole.tables) in
+    let exports = named c.args.files.whole.exports ∷ named c.args.files.second ∷ [] in
+    rw (p.1, p.2)
+    (once (map named (file_list c.args.files)) (g.I.Read.remaining c.args.input.now) _ _ c.names_input_twice.ensures c.if-names_input_twice.false
+    (fails_before tables exports (g.I.Read.remaining c.args.input.now) c.in_err-tables.field-0.0 c.in_err-tables.ensures.texts))
+
+pub returns-in_err-first-clause-texts : goal.returns-in_err-first-clause-texts
+returns-in_err-first-clause-texts g c =
+    let p = err_from_is_err_and c.from_residual-in_err-first.result c.from_residual-in_err-first.ensures.1 in
+    let tables = map named (table_list c.args.files.whole.tables) in
+    let exports = named c.args.files.whole.exports ∷ named c.args.files.second ∷ [] in
+    rw (p.1, p.2)
+    (once (map named (file_list c.args.files)) (g.I.Read.remaining c.args.input.now) _ _ c.names_input_twice.ensures c.if-names_input_twice.false
+    (fails_on tables exports (g.I.Read.remaining c.args.input.now) (g.I.Read.remaining c.read_tables.new.input) (map string_bytes (table_list c.in_ok-tables.tables)) c.in_err-first.field-0.0 c.in_ok-tables.ensures.texts (inl c.in_err-first.ensures.text)))
+
+pub returns-in_err-second-clause-texts : goal.returns-in_err-second-clause-texts
+returns-in_err-second-clause-texts g c =
+    let p = err_from_is_err_and c.from_residual-in_err-second.result c.from_residual-in_err-second.ensures.1 in
+    let tables = map named (table_list c.args.files.whole.tables) in
+    let exports = named c.args.files.whole.exports ∷ named c.args.files.second ∷ [] in
+    rw (p.1, p.2)
+    (once (map named (file_list c.args.files)) (g.I.Read.remaining c.args.input.now) _ _ c.names_input_twice.ensures c.if-names_input_twice.false
+    (fails_on tables exports (g.I.Read.remaining c.args.input.now) (g.I.Read.remaining c.read_tables.new.input) (map string_bytes (table_list c.in_ok-tables.tables)) c.in_err-second.field-0.0 c.in_ok-tables.ensures.texts
+    (inr (string_bytes c.in_ok-first.first, g.I.Read.remaining c.read_file.new.input, (c.in_ok-first.ensures.text, (c.read_file.ensures.left, inl c.in_err-second.ensures.text))))))
+
+pub returns-clause-texts : goal.returns-clause-texts
+returns-clause-texts g c =
+    let tables = map named (table_list c.args.files.whole.tables) in
+    let exports = named c.args.files.whole.exports ∷ named c.args.files.second ∷ [] in
+    once (map named (file_list c.args.files)) (g.I.Read.remaining c.args.input.now) _ _ c.names_input_twice.ensures c.if-names_input_twice.false
+    (reads_on tables exports (g.I.Read.remaining c.args.input.now) (g.I.Read.remaining c.read_tables.new.input) (map string_bytes (table_list c.in_ok-tables.tables)) (string_bytes c.in_ok-first.first ∷ string_bytes c.in_ok-second.second ∷ []) c.in_ok-tables.ensures.texts
+    (c.in_ok-first.ensures.text, (g.I.Read.remaining c.read_file.new.input, (c.read_file.ensures.left, (c.in_ok-second.ensures.text, (g.I.Read.remaining c.read_file-2.new.input, (c.read_file-2.ensures.left, refl)))))))

@@ -1,0 +1,9 @@
+pub mod InTurn
+pub mod MountWords
+pub mod Subject
+pub mod Systems
+pub mod TableFiles
+pub mod TwoFiles
+pub mod TwoQuestion
+pub mod WholeFiles
+pub mod WholeQuestion
