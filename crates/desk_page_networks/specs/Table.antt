@@ -3,8 +3,8 @@ use Rattle.std.specs.Prelude.{◌≡◌, ℕ, ◌==◌, ◌-◌, List, [], ◌++
 use Rattle.std.specs.List.{flat_map}
 use Rattle.desk_text.specs.Network.{Block, block_size}
 use Rattle.desk_policy.specs.Policy.{Content}
-use Rattle.desk_maps.specs.Order.{AreOrdered}
-use Rattle.desk_maps.specs.LineNetworks.{written_networks}
+use Rattle.page_maps.specs.Order.{AreOrdered}
+use Rattle.page_maps.specs.LineNetworks.{written_networks}
 use Rattle.desk_page.specs.Amounts.{plural}
 use Rattle.desk_page.specs.Ranges.{network_text}
 use Rattle.desk_page.specs.TextRows.{count_cell}

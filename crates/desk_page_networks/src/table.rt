@@ -9,12 +9,12 @@ ghost use Rattle.desk_page_networks.specs.Table.{GainsNetworks};
 
 use crate::cells::{push_alike_cell, push_parts_cell};
 use crate::rows::{NetworkRow, network_rows, size_of};
-use desk_maps::written_in_site;
 use desk_page::{push_count_cell, push_network, push_plural};
 use desk_page_lists::{push_row_end, push_table_end};
 use desk_policy::Policy;
 use desk_report::FileSystemReport;
 use desk_text::Net;
+use page_maps::written_in_site;
 use std::alloc::{AllocError, Global};
 
 /// So many networks are listed.

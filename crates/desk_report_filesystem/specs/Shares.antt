@@ -5,9 +5,9 @@ use Rattle.desk_text.specs.Network.{Block, last_of}
 use Rattle.desk_policy.specs.declared.row.Row.{Row}
 use Rattle.desk_who.specs.Runs.{Run}
 use Rattle.desk_report.specs.declared.class.Class.{Class}
-use Rattle.desk_maps.specs.Maps.{is_listed}
-use Rattle.desk_maps.specs.Order.{AreOrdered}
-use Rattle.desk_maps.specs.LineNetworks.{written_networks}
+use Rattle.page_maps.specs.Maps.{is_listed}
+use Rattle.page_maps.specs.Order.{AreOrdered}
+use Rattle.page_maps.specs.LineNetworks.{written_networks}
 use Rattle.desk_page.specs.Ranges.{Ends}
 use Rattle.desk_page_filesystem.specs.declared.shares.Share.{Share}
 use Rattle.desk_page_filesystem.specs.declared.shares.Space.{Space}

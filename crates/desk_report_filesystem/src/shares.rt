@@ -5,17 +5,17 @@ ghost use Rattle.desk_report.specs.Classes.{class_run};
 ghost use Rattle.desk_report.specs.Values.{AreRunsOfSome};
 ghost use Rattle.desk_page_filesystem.specs.Shares.{HasSize};
 ghost use Rattle.desk_text.specs.Network.{block_of};
-ghost use Rattle.desk_maps.specs.Maps.{is_listed, same_network};
+ghost use Rattle.page_maps.specs.Maps.{is_listed, same_network};
 ghost use Rattle.desk_report_filesystem.specs.Shares as spec;
 ghost use Rattle.desk_report_filesystem.specs.Shares.{AreShares, AreSharesOf, IsShareFrom, network_space, private_networks};
 
 use crate::counting::{all_counts, counts_between, counts_outside};
-use desk_maps::written_networks;
 use desk_page_filesystem::{Share, Space};
 use desk_policy::Row;
 use desk_report::Class;
 use desk_text::{Addr, Net, Prefix, Sequence};
 use desk_who::Run;
+use page_maps::written_networks;
 use std::alloc::{AllocError, Global};
 
 /// So many of the networks that lines write have a share.

@@ -11,7 +11,7 @@ use Rattle.desk_core.specs.declared.head.Head.{Head}
 use Rattle.desk_report.specs.Classes.{class_run}
 use Rattle.desk_report.specs.Systems.{AreSystems, IsSystem, SystemValue, system_value}
 use Rattle.desk_report.specs.declared.systems.FileSystemReport.{FileSystemReport}
-use Rattle.desk_page_maps.specs.Figures.{GainsFileSystemMaps}
+use Rattle.page_maps.specs.Figures.{GainsFileSystemMaps}
 use Rattle.desk_page_filesystem.specs.declared.parts.ProposalPart.{ProposalPart}
 use Rattle.desk_report_filesystem.specs.Parts.{IsReadableHead}
 use Rattle.desk_report_places.specs.Groups.{AreListedGroups, listed_value}

@@ -13,7 +13,7 @@ use Rattle.desk_report.specs.declared.class.Class.{Class}
 use Rattle.desk_report.specs.declared.lines.LineReasons.{LineReasons}
 use Rattle.desk_overview.specs.Lines.{AreLinesOfSite, AreReasonsOfSite, LineValue}
 use Rattle.desk_deciding.specs.Deciding.{AreDecidedFor, DecidedFor}
-use Rattle.desk_page_maps.specs.Figures.{GainsOverviewMaps}
+use Rattle.page_maps.specs.Figures.{GainsOverviewMaps}
 use Rattle.desk_report_page.specs.WaitingProposals.{Waiting}
 
 -- what a page is made of: the policy in force and its tables, the newest revisions and the proposals, in no order, those of these for

@@ -12,7 +12,7 @@ use Rattle.desk_core.specs.declared.proposal.Proposal.{Proposal}
 use Rattle.desk_report.specs.Opening.{AreOpenings}
 use Rattle.desk_page_lists.specs.MakingAgain.{make_again}
 use Rattle.desk_page_lists.specs.Reading.{how_to_read}
-use Rattle.desk_page_maps.specs.Shapes.{shapes}
+use Rattle.page_maps.specs.Shapes.{shapes}
 use Rattle.desk_page_networks.specs.Table.{GainsNetworks}
 use Rattle.desk_page_summary.specs.Figures.{figures}
 use Rattle.desk_page_summary.specs.FlavoursTable.{flavours_table}

@@ -20,7 +20,7 @@ use Rattle.desk_page_filesystem.specs.declared.outcomes.Outcome.{Outcome}
 use Rattle.desk_page_filesystem.specs.declared.outcomes.Outcome.TheVariants.{Changes, Refused}
 use Rattle.desk_page_filesystem.specs.declared.parts.FileSystemPart.{FileSystemPart}
 use Rattle.desk_page_filesystem.specs.declared.parts.ProposalPart.{ProposalPart}
-use Rattle.desk_page_maps.specs.Figures.{GainsFileSystemMaps}
+use Rattle.page_maps.specs.Figures.{GainsFileSystemMaps}
 use Rattle.desk_page_words.specs.declared.finding_words.Finding.{Finding}
 use Rattle.desk_report_filesystem.specs.OwnLines.{lines_in}
 use Rattle.desk_report_filesystem.specs.Parts.{IsPartOf}

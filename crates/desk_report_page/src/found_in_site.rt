@@ -4,7 +4,7 @@ ghost use Rattle.std.specs.Prelude.{[], All, IfOk, map};
 ghost use Rattle.std.specs.String.{string_bytes};
 ghost use Rattle.desk_deciding.specs.Deciding.{AreInLineOrder, deciding_value};
 ghost use Rattle.desk_overview.specs.Lines.{AreReasonsOfSite};
-ghost use Rattle.desk_page_maps.specs.Figures.{GainsOverviewMaps};
+ghost use Rattle.page_maps.specs.Figures.{GainsOverviewMaps};
 ghost use Rattle.desk_report.specs.Classes.{class_run};
 ghost use Rattle.desk_report.specs.Laws.{IsSoundSite};
 ghost use Rattle.desk_report.specs.Systems.{AreSystems, system_value};
@@ -12,12 +12,12 @@ ghost use Rattle.desk_report.specs.Values.{AreRunsOfSome};
 ghost use Rattle.desk_report_page.specs.FoundInSite.{AreDecidedOfSite, AreSmallMaps};
 
 use desk_deciding::{Deciding, deciding_lines};
-use desk_page_maps::push_overview_maps;
 use desk_policy::Policy;
 use desk_report::{Class, FileSystemReport, LineReasons, classes_of_site};
 use desk_tables::FsId;
 use desk_text::Sequence;
 use desk_who::Run;
+use page_maps::push_overview_maps;
 use std::alloc::{AllocError, Global};
 
 /// Lists which lines decide in place of those that never do, by file system, in the order of the table, given what is found of each file

@@ -19,7 +19,6 @@ use desk_core::{Head, Proposal};
 use desk_deciding::Deciding;
 use desk_overview::SiteLine;
 use desk_page_lists::{push_how_to_read, push_make_again};
-use desk_page_maps::push_shapes;
 use desk_page_networks::push_networks;
 use desk_page_summary::{
     Header, Section, push_footer, push_header, push_section_end, push_section_start,
@@ -35,6 +34,7 @@ use desk_report_summary::{
 };
 use desk_text::Sequence;
 use page_html::push_page_head;
+use page_maps::push_shapes;
 use std::alloc::{AllocError, Global};
 
 /// What the sections are made of: the policy in force and the tables of its site, the newest revisions and the proposals, and what is

@@ -8,7 +8,7 @@ ghost use Rattle.desk_core.specs.Head.{newest_in};
 ghost use Rattle.desk_policy.specs.SiteFault.{fault_line};
 ghost use Rattle.desk_policy.specs.SiteFile.{exports_file_name};
 ghost use Rattle.desk_page_filesystem.specs.Parts.{IsReadableProposal};
-ghost use Rattle.desk_page_maps.specs.Figures.{GainsFileSystemMaps};
+ghost use Rattle.page_maps.specs.Figures.{GainsFileSystemMaps};
 ghost use Rattle.desk_report.specs.Classes.{class_run};
 ghost use Rattle.desk_report.specs.Systems.{AreSystems, system_value};
 ghost use Rattle.desk_report.specs.Values.{AreRunsOfSome};
@@ -25,7 +25,6 @@ use desk_deciding::Deciding;
 use desk_impact::Section;
 use desk_overview::SiteLine;
 use desk_page_filesystem::{Outcome as ToldOutcome, ProposalPart};
-use desk_page_maps::push_file_system_maps;
 use desk_page_words::Finding;
 use desk_policy::{Policy, PolicyView, SiteFault, exports_file_name};
 use desk_report::{Class, FileSystemReport, Opening, orders_tell_verdicts};
@@ -34,6 +33,7 @@ use desk_report_places::{ListedGroups, changes_of, listed_groups};
 use desk_report_summary::{SiteFinding, site_findings};
 use desk_tables::{FsId, Mount};
 use desk_who::Run;
+use page_maps::push_file_system_maps;
 use std::alloc::{AllocError, Global};
 
 /// What the parts of all file systems are made of.

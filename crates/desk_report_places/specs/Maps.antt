@@ -9,7 +9,7 @@ use Rattle.desk_impact.specs.Sections.{PlaceBreaches}
 use Rattle.desk_report.specs.Classes.{AreClassesFrom}
 use Rattle.desk_report.specs.Tables.{ranges_at_first}
 use Rattle.desk_report.specs.declared.class.Class.{Class}
-use Rattle.desk_page_maps.specs.Figures.{GainsGroupMaps}
+use Rattle.page_maps.specs.Figures.{GainsGroupMaps}
 
 -- each of so many groups may have maps of its own: there are more than one, and not too many
 abbrev pub are_drawn : ℕ → Bool

@@ -12,10 +12,10 @@ ghost use Rattle.desk_report_places.specs.Maps as spec;
 ghost use Rattle.desk_report_places.specs.Maps.{AreMapsIf, AreMapsOf, AreMapsOfGroup};
 
 use desk_impact::Section;
-use desk_page_maps::push_group_maps;
 use desk_policy::Verdict;
 use desk_report::classes_from;
 use desk_who::Range;
+use page_maps::push_group_maps;
 use std::alloc::{AllocError, Global};
 
 /// How many groups may have maps of their own.

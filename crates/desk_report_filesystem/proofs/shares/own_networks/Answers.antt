@@ -2,7 +2,7 @@ use Rattle.std.proofs.Common.{Bool, rules}
 use Rattle.std.specs.Prelude.{not}
 use Rattle.std.proofs.lemmas.Fn.{filter_same}
 use Rattle.desk_text.specs.Network.{Block}
-use Rattle.desk_maps.specs.Maps.{is_listed}
+use Rattle.page_maps.specs.Maps.{is_listed}
 use Rattle.desk_report_filesystem.specs.Shares.{private_networks}
 use Rattle.desk_report_filesystem.proofs.shares.own_networks.Goals as goal
 

@@ -2,7 +2,7 @@ use Rattle.std.proofs.Common.{◌+◌, ◌∙◌, [], ap, arith, map, sym, subst
 use Rattle.std.specs.Prelude.{true}
 use Rattle.std.specs.String.{string_bytes}
 use Rattle.std.proofs.lemmas.List.{map-append}
-use Rattle.desk_page_maps.specs.Figures.{GainsOverviewMaps}
+use Rattle.page_maps.specs.Figures.{GainsOverviewMaps}
 use Rattle.desk_report.specs.Classes.{class_run}
 use Rattle.desk_report.specs.Systems.{system_value}
 use Rattle.desk_report.specs.Values.{AreRunsOfSome}

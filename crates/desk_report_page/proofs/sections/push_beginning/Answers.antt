@@ -1,7 +1,7 @@
 use Rattle.std.specs.String.{string_bytes}
 use Rattle.std.proofs.lemmas.Result.{on_ok_weaker}
 use Rattle.page_html.specs.Head.{page_head}
-use Rattle.desk_page_maps.specs.Shapes.{shapes}
+use Rattle.page_maps.specs.Shapes.{shapes}
 use Rattle.desk_report_page.proofs.Pieces.{gains_just, gains_then}
 use Rattle.desk_report_page.proofs.sections.push_beginning.Goals as goal
 

@@ -3,7 +3,7 @@ use Rattle.std.specs.String.{string_bytes}
 use Rattle.desk_report.specs.Class.{class_of}
 use Rattle.desk_report.specs.Classes.{class_run}
 use Rattle.desk_report.specs.Values.{AreRunsOfSome}
-use Rattle.desk_page_maps.specs.Figures.{GainsGroupMaps}
+use Rattle.page_maps.specs.Figures.{GainsGroupMaps}
 use Rattle.desk_report_places.proofs.maps.drawn_maps.Goals as goal
 
 pub push_group_maps-requires : goal.push_group_maps-requires

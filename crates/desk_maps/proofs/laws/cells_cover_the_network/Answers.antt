@@ -1,5 +1,0 @@
-use Rattle.desk_maps.proofs.Covering.{cells_cover}
-use Rattle.desk_maps.proofs.laws.cells_cover_the_network.Goals as goal
-
-pub returns : goal.returns
-returns c = cells_cover c.covers_between_first_and_last.ensures

@@ -1,5 +1,0 @@
-use Rattle.desk_maps.proofs.Shown.{seams_are_shown}
-use Rattle.desk_maps.proofs.laws.seams_are_shown.Goals as goal
-
-pub returns : goal.returns
-returns c = seams_are_shown

@@ -1,9 +1,0 @@
-mod Ends
-mod Gaining
-mod Grounds
-mod Ranged
-mod Sized
-mod Spans
-mod Summed
-mod Telling
-mod Unique

@@ -1,0 +1,14 @@
+pub mod Cells
+pub mod PrivateCells
+pub mod Order
+pub mod PrivateOrder
+pub mod Maps
+pub mod LineNetworks
+pub mod DrawnMaps
+pub mod Paths
+pub mod Grounds
+pub mod Drawing
+pub mod Figures
+pub mod PrivateFigures
+pub mod Shapes
+pub mod Laws

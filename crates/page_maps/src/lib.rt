@@ -1,0 +1,34 @@
+//! The maps of a report: which maps of networks show where the most that clients may changes, the cells of each, and the
+//! maps as SVG.
+//!
+//! ```text
+//! let maps = maps_of(alloc, runs)?;                     // 0.0.0.0/0, 10.0.0.0/8, 10.20.0.0/16
+//! let cells = cells_of(alloc, runs, maps[1])?;
+//! cells[20].most                                        // Class::ReadOnly: some address of 10.20.0.0/16 may read
+//!
+//! push_shapes(&mut page)?;                              // once
+//! push_file_system_maps(alloc, runs, &mut page)?;       // 0.0.0.0/0, 10.0.0.0/8, 172.16.0.0/12, 192.168.0.0/16, ..
+//! ```
+#![tactic(auto)]
+
+pub mod cells;
+mod drawing;
+pub mod drawn_maps;
+pub mod figures;
+pub mod laws;
+pub mod line_networks;
+pub mod maps;
+mod order;
+mod paths;
+pub mod shapes;
+
+pub use cells::{Cell, cells_of};
+pub use drawn_maps::{DrawnMap, drawn_map};
+pub use figures::{push_file_system_maps, push_group_maps, push_overview_maps};
+pub use laws::{
+    cells_cover_the_network, grounds_have_just_the_cells, maps_are_exact_together,
+    maps_are_told_in_one_way, needed_maps_are_told, seams_are_shown,
+};
+pub use line_networks::{written_in_site, written_networks};
+pub use maps::{maps_of, with_fixed_maps};
+pub use shapes::push_shapes;
