@@ -1,14 +1,14 @@
 //! Questions on the lines of a file system.
 
 ghost use Rattle.std.specs.Prelude.{map};
-ghost use Rattle.desk_deciding.specs.Deciding.{AreInLineOrder, AreSectionsOf, deciding_value};
+ghost use Rattle.page_findings.specs.Deciding.{AreInLineOrder, AreSectionsOf, deciding_value};
 ghost use Rattle.desk_impact.specs.Sections.{section_value};
 ghost use Rattle.desk_report.specs.Laws.{IsSound};
 ghost use Rattle.desk_report.specs.Lines.{AreLineReasons};
 
 use crate::classes::add_bar;
 use desk_cases_texts::answers::Asked;
-use desk_deciding::{Deciding, deciding_lines};
+use page_findings::{Deciding, deciding_lines};
 use desk_policy::Policy;
 use desk_report::{FileSystemReport, Level, LineGrants, LineReasons, Reason};
 use desk_tables::FsId;

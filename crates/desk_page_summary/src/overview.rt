@@ -9,7 +9,7 @@ use crate::addresses::push_part_cell;
 use desk_core::Head;
 use desk_page::{push_code, push_code_list, push_number, push_system_link, push_zero};
 use desk_page_lists::{Table, push_row_end, push_table_end, push_table_start};
-use desk_page_words::push_badge;
+use page_findings::push_badge;
 use desk_report::Class;
 use desk_tables::FsId;
 use desk_text::Text;

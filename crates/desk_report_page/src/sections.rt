@@ -16,8 +16,7 @@ ghost use Rattle.desk_report_page.specs.Pieces.{Gains, Just, Then, Told};
 ghost use Rattle.desk_report_page.specs.PrivateSections.{CanBeWritten, parts_found};
 
 use desk_core::{Head, Proposal};
-use desk_deciding::Deciding;
-use desk_overview::SiteLine;
+use page_findings::{Deciding, SiteLine};
 use desk_page_lists::{push_how_to_read, push_make_again};
 use desk_page_maps::push_shapes;
 use desk_page_networks::push_networks;

@@ -11,7 +11,7 @@ use crate::foreseen_sites::waiting_of;
 use crate::page::{ReportedSite, report_page};
 use desk_core::{State, compile_heads};
 use desk_index::Index;
-use desk_overview::server_of_site;
+use page_findings::server_of_site;
 use desk_policy::{PolicyView, SiteFault};
 use desk_report::{openings_of_site, sites_are_sound};
 use desk_text::{Path, ReadError};
