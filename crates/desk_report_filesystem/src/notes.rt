@@ -9,11 +9,11 @@ ghost use Rattle.desk_report_filesystem.specs.Notes as spec;
 ghost use Rattle.desk_report_filesystem.specs.Notes.{LinesAscend, NotesAscend};
 
 use desk_exports::lines::read_grammar_line;
-use page_findings::SiteLine;
 use desk_page_filesystem::{Note, Said};
 use desk_report::reasons::are_all;
 use desk_report::{Class, Reason};
 use desk_text::{Line, LogicalLines, ReadError};
+use page_findings::SiteLine;
 use std::alloc::{AllocError, Global};
 
 /// Says of each logical line of a text what it does, given the lines of the file system in their order.

@@ -5,8 +5,8 @@ ghost use Rattle.page_findings.specs.Lines.{line_value};
 ghost use Rattle.desk_report_filesystem.specs.OwnLines as spec;
 ghost use Rattle.desk_report_filesystem.specs.OwnLines.{AreByFileSystem};
 
-use page_findings::SiteLine;
 use desk_tables::FsId;
+use page_findings::SiteLine;
 
 /// Lends the lines of a file system, by two binary searches.
 pub fn lines_in<'b, 'a>(lines: &'b [SiteLine<'a>], fs: FsId) -> &'b [SiteLine<'a>]

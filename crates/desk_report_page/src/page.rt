@@ -25,7 +25,6 @@ use crate::sections::{Listed, Parts, push_back, push_front};
 use crate::system_parts::{Telling, push_systems};
 use crate::waiting_proposals::Waiting;
 use desk_core::{Head, Proposal};
-use page_findings::{Deciding, SiteLine, lines_of_site, reasons_of_site};
 use desk_impact::Section as PlaceSection;
 use desk_page_summary::{Section, push_section_end, push_section_start};
 use desk_policy::{Policy, PolicyView, SiteTables};
@@ -33,6 +32,7 @@ use desk_report::{
     FileSystemReport, LineReasons, Opening, ServerFindings, sites_are_sound, systems_of_site,
 };
 use desk_text::{Path, Sequence};
+use page_findings::{Deciding, SiteLine, lines_of_site, reasons_of_site};
 use std::alloc::{AllocError, Global};
 
 /// What a page is made of.

@@ -21,7 +21,6 @@ ghost use Rattle.desk_report_page.specs.WaitingProposals.{waiting_value};
 
 use crate::waiting_proposals::{Outcome, Waiting};
 use desk_core::{Head, newest_among};
-use page_findings::{Deciding, Finding, SiteLine};
 use desk_impact::Section;
 use desk_page_filesystem::{Outcome as ToldOutcome, ProposalPart};
 use desk_page_maps::push_file_system_maps;
@@ -32,6 +31,7 @@ use desk_report_places::{ListedGroups, changes_of, listed_groups};
 use desk_report_summary::{SiteFinding, site_findings};
 use desk_tables::{FsId, Mount};
 use desk_who::Run;
+use page_findings::{Deciding, Finding, SiteLine};
 use std::alloc::{AllocError, Global};
 
 /// What the parts of all file systems are made of.

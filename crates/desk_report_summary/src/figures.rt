@@ -9,10 +9,10 @@ ghost use Rattle.desk_report_summary.specs.Adding.{Adds};
 ghost use Rattle.desk_report_summary.specs.KeyFigures.{AreKeyFigures};
 
 use desk_core::Proposal;
-use page_findings::{Figures as SiteFigures, SiteLine, figures_of_site};
 use desk_page_summary::{Figures, push_figures};
 use desk_policy::Policy;
 use desk_tables::Mount;
+use page_findings::{Figures as SiteFigures, SiteLine, figures_of_site};
 use std::alloc::{AllocError, Global};
 
 /// Begins the summary, and adds the key figures of a site, given the lines of all its file systems, and all proposals.

@@ -6,9 +6,9 @@ ghost use Rattle.page_findings.specs.Lines.{line_value};
 ghost use Rattle.desk_report_summary.specs.SiteFinding as spec;
 ghost use Rattle.desk_report_summary.specs.SiteFinding.{finding_value};
 
-use page_findings::{Deciding, Finding, SiteLine};
 use desk_exports::Clients;
 use desk_tables::FsId;
+use page_findings::{Deciding, Finding, SiteLine};
 use std::alloc::{AllocError, Global};
 
 /// A line that stands out, what its words tell, and to how many addresses it grants something.
