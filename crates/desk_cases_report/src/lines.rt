@@ -1,18 +1,18 @@
 //! Questions on the lines of a file system.
 
 ghost use Rattle.std.specs.Prelude.{map};
-ghost use Rattle.desk_deciding.specs.Deciding.{AreInLineOrder, AreSectionsOf, deciding_value};
+ghost use Rattle.page_findings.specs.Deciding.{AreInLineOrder, AreSectionsOf, deciding_value};
 ghost use Rattle.desk_impact.specs.Sections.{section_value};
 ghost use Rattle.desk_report.specs.Laws.{IsSound};
 ghost use Rattle.desk_report.specs.Lines.{AreLineReasons};
 
 use crate::classes::add_bar;
 use desk_cases_texts::answers::Asked;
-use desk_deciding::{Deciding, deciding_lines};
 use desk_policy::Policy;
 use desk_report::{FileSystemReport, Level, LineGrants, LineReasons, Reason};
 use desk_tables::FsId;
 use desk_text::Path;
+use page_findings::{Deciding, deciding_lines};
 use std::alloc::{AllocError, Global};
 
 /// `grants FS`: each line of the file system, with the number of addresses to which it grants something: `line 2 65536|line 3 0`.

@@ -2,7 +2,7 @@
 //! mountd(8) does is found by one.
 
 ghost use Rattle.std.specs.Prelude.{◌≡◌, [], map};
-ghost use Rattle.desk_deciding.specs.Deciding.{AreSectionsOf};
+ghost use Rattle.page_findings.specs.Deciding.{AreSectionsOf};
 ghost use Rattle.desk_impact.specs.Sections.{section_value};
 ghost use Rattle.desk_policy.specs.Site.{HaveReadableLengths, texts_of};
 ghost use Rattle.desk_report.specs.Grants.{AreGrants};

@@ -15,7 +15,7 @@ use Rattle.desk_page.specs.Numbers.{number}
 use Rattle.desk_page.specs.Pieces.{code}
 use Rattle.desk_page.specs.Ranges.{range_text}
 use Rattle.desk_page.specs.Terms.{terms_words}
-use Rattle.desk_page_words.specs.Badges.{badge}
+use Rattle.page_findings.specs.Badges.{badge}
 use Rattle.desk_page_filesystem.specs.declared.changes.ChangeRow.{ChangeRow}
 
 -- by which line a mount is granted, and on what terms; a line of the proposed text has no link

@@ -3,7 +3,7 @@ use Rattle.std.specs.Prelude.{ℕ, Bool, List, ◌++◌, Option, codes}
 use Rattle.desk_core.specs.declared.head.Head.{Head}
 use Rattle.desk_report.specs.declared.counts.Counts.{Counts}
 use Rattle.desk_page.specs.Facts.{guarded_fact, in_force, kept_by}
-use Rattle.desk_page_words.specs.Badges.{class_parts}
+use Rattle.page_findings.specs.Badges.{class_parts}
 
 -- who keeps the file, and whether it is guarded
 abbrev pub keeping : List (List ℕ) → Bool → List ℕ

@@ -2,9 +2,9 @@
 use Rattle.std.specs.Prelude.{ℕ, ◌==◌, List, [], ◌++◌, codes, length, if◌then◌else◌}
 use Rattle.std.specs.List.{flat_map}
 use Rattle.desk_page.specs.Pieces.{line_link}
-use Rattle.desk_page_words.specs.Badges.{level_mark}
-use Rattle.desk_page_words.specs.FindingWords.{finding_words}
-use Rattle.desk_page_words.specs.declared.finding_words.Finding.{Finding}
+use Rattle.page_findings.specs.Badges.{level_mark}
+use Rattle.page_findings.specs.FindingWords.{finding_words}
+use Rattle.page_findings.specs.declared.finding_words.Finding.{Finding}
 use Rattle.desk_report.specs.Reasons.{level_of_all}
 
 -- the item of a line: its level, a link to it, and why it stands out

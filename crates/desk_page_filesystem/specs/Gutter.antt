@@ -2,7 +2,7 @@
 use Rattle.std.specs.Prelude.{ℕ, ◌==◌, Bool, false, List, ◌++◌, Option, Some, None, codes, find, if◌then◌else◌}
 use Rattle.desk_report.specs.declared.class.Class.{Class}
 use Rattle.desk_page.specs.TextRows.{count_cell}
-use Rattle.desk_page_words.specs.Badges.{badge}
+use Rattle.page_findings.specs.Badges.{badge}
 use Rattle.desk_page_filesystem.specs.declared.gutter.Note.{Note}
 use Rattle.desk_page_filesystem.specs.declared.gutter.Said.{Said}
 use Rattle.desk_page_filesystem.specs.declared.gutter.Said.TheVariants.{Grants, MatchesNobody, NeverDecides, NotRead}

@@ -10,10 +10,10 @@ ghost use Rattle.desk_page_filesystem.specs.Changes as spec;
 use desk_exports::Terms;
 use desk_impact::Place;
 use desk_page::{push_code, push_number, push_plural, push_range, push_terms};
-use desk_page_words::push_badge;
 use desk_policy::Verdict;
 use desk_report::Class;
 use desk_text::Addr;
+use page_findings::push_badge;
 use std::alloc::{AllocError, Global};
 
 /// How many changes stand in the open.

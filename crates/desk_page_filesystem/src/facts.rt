@@ -7,9 +7,9 @@ ghost use Rattle.desk_page_filesystem.specs.Facts as spec;
 
 use desk_core::Head;
 use desk_page::{push_guarded, push_in_force, push_kept_by};
-use desk_page_words::push_class_parts;
 use desk_report::Counts;
 use desk_text::Text;
+use page_findings::push_class_parts;
 use std::alloc::{AllocError, Global};
 
 /// Adds the facts of a file system: the newest revision of its file, who keeps that, whether it is guarded, and how many addresses may

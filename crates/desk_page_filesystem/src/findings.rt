@@ -5,7 +5,7 @@ ghost use Rattle.std.specs.String.{string_bytes};
 ghost use Rattle.desk_page_filesystem.specs.Findings as spec;
 
 use desk_page::push_line_link;
-use desk_page_words::{Finding, push_finding_words, push_level_mark};
+use page_findings::{Finding, push_finding_words, push_level_mark};
 use std::alloc::{AllocError, Global};
 
 /// Adds the lines that stand out, if there are any.

@@ -6,8 +6,8 @@ ghost use Rattle.std.specs.String.{string_bytes};
 ghost use Rattle.desk_page_filesystem.specs.Gutter as spec;
 
 use desk_page::push_count_cell;
-use desk_page_words::push_badge;
 use desk_report::Class;
+use page_findings::push_badge;
 use std::alloc::{AllocError, Global};
 
 /// What a logical line does.

@@ -18,10 +18,10 @@ use crate::shares::{Share, push_shares_block};
 use crate::texts::push_text_block;
 use desk_core::Head;
 use desk_page_places::{GroupPart, push_groups, push_groups_start, push_not_listed};
-use desk_page_words::Finding;
 use desk_report::Counts;
 use desk_tables::FsId;
 use desk_text::Text;
+use page_findings::Finding;
 use std::alloc::{AllocError, Global};
 
 /// What waits for a file system, and what comes of it if it is put in force now.

@@ -11,7 +11,7 @@ use Rattle.desk_report.specs.Counts.{AreCounts, class_count, count_within}
 use Rattle.desk_report.specs.declared.class.Class.{Class}
 use Rattle.desk_report.specs.declared.class.Class.TheVariants.{Denied, ReadOnly, ReadWrite, RootKept}
 use Rattle.desk_report.specs.declared.counts.Counts.{Counts}
-use Rattle.desk_page_words.specs.Badges.{count_of}
+use Rattle.page_findings.specs.Badges.{count_of}
 use Rattle.desk_page_networks.specs.Laws.{AlikeMeansAll, AllHave}
 use Rattle.desk_page_networks.specs.Rows.{class_of_all, is_mixed}
 

@@ -5,7 +5,7 @@ use Rattle.desk_policy.specs.Policy.{Content}
 use Rattle.desk_policy.specs.Prints.{mount_text}
 use Rattle.desk_page.specs.Amounts.{plural}
 use Rattle.desk_page.specs.Pieces.{system_link, zero}
-use Rattle.desk_page_words.specs.Badges.{class_words, count_words}
+use Rattle.page_findings.specs.Badges.{class_words, count_words}
 use Rattle.desk_page_networks.specs.declared.rows.SystemClass.{SystemClass}
 use Rattle.desk_page_networks.specs.declared.rows.SystemCounts.{SystemCounts}
 

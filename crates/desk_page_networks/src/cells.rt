@@ -7,9 +7,9 @@ ghost use Rattle.desk_page_networks.specs.Cells as spec;
 
 use crate::rows::{SystemClass, SystemCounts};
 use desk_page::{push_plural, push_system_link, push_zero};
-use desk_page_words::{push_class_words, push_count_words};
 use desk_policy::{Policy, mount_text};
 use desk_tables::FsId;
+use page_findings::{push_class_words, push_count_words};
 use std::alloc::{AllocError, Global};
 
 /// So many file systems are named in a cell.

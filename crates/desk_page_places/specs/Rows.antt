@@ -16,7 +16,7 @@ use Rattle.desk_page.specs.Pieces.{line_link}
 use Rattle.desk_page.specs.Ranges.{ranges_text}
 use Rattle.desk_page.specs.Terms.{terms_words}
 use Rattle.desk_page.specs.declared.ranges.Span.{Span}
-use Rattle.desk_page_words.specs.Badges.{badge}
+use Rattle.page_findings.specs.Badges.{badge}
 
 -- a verdict, and ranges of addresses that have it
 pub record RowValue : Type 0 where

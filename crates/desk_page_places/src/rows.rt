@@ -7,11 +7,11 @@ ghost use Rattle.desk_page_places.specs.Rows as spec;
 
 use desk_exports::Terms;
 use desk_page::{Span, push_line_link, push_part, push_ranges, push_terms};
-use desk_page_words::push_badge;
 use desk_policy::{Denial, Verdict};
 use desk_report::{Class, TableRow};
 use desk_tables::FsId;
 use desk_who::Range;
+use page_findings::push_badge;
 use std::alloc::{AllocError, Global};
 
 /// How many addresses there are.

@@ -4,7 +4,7 @@ use Rattle.std.specs.List.{flat_map}
 use Rattle.desk_exports.specs.declared.entry.Flavour.{Flavour}
 use Rattle.desk_page.specs.Terms.{flavours_words}
 use Rattle.desk_page.specs.TextRows.{count_cell}
-use Rattle.desk_page_words.specs.FindingWords.{flavour_names}
+use Rattle.page_findings.specs.FindingWords.{flavour_names}
 use Rattle.desk_page_lists.specs.Mentions.{some_of}
 use Rattle.desk_page_lists.specs.Tables.{row_end, table_end, table_start}
 use Rattle.desk_page_summary.specs.declared.flavours.FlavoursRow.{FlavoursRow}

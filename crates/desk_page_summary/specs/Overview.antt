@@ -7,7 +7,7 @@ use Rattle.desk_core.specs.declared.head.Head.{Head}
 use Rattle.desk_page.specs.Numbers.{number}
 use Rattle.desk_page.specs.Pieces.{code, code_list, system_link, zero}
 use Rattle.desk_page_lists.specs.Tables.{row_end, table_end, table_start}
-use Rattle.desk_page_words.specs.Badges.{badge}
+use Rattle.page_findings.specs.Badges.{badge}
 use Rattle.desk_page_summary.specs.Addresses.{part_cell}
 use Rattle.desk_report.specs.declared.class.Class.{Class}
 use Rattle.desk_page_summary.specs.declared.overview.Reach.{Reach}

@@ -7,8 +7,8 @@ use Rattle.std.proofs.lemmas.Bool.{cases_Bool, eq-eqb}
 use Rattle.desk_text.specs.Lines.{LogicalLine, logical_lines}
 use Rattle.desk_exports.specs.Laws.{takes_part}
 use Rattle.desk_exports.proofs.TextAnswers.{entry_numbers}
-use Rattle.desk_overview.specs.Lines.{LineValue}
-use Rattle.desk_overview.proofs.Mapped.{any_mapped}
+use Rattle.page_findings.specs.Lines.{LineValue}
+use Rattle.page_findings.proofs.Mapped.{any_mapped}
 use Rattle.desk_page_filesystem.specs.declared.gutter.Note.{Note}
 use Rattle.desk_report_filesystem.specs.Laws.{EachLineHasANote}
 use Rattle.desk_report_filesystem.specs.Notes.{line_at, site_line_note, logical_line_note, not_read}

@@ -8,8 +8,8 @@ use Rattle.std.proofs.lemmas.List.{append-nil, get_or-map, length-map}
 use Rattle.desk_text.specs.Lines.{AreNumberedUp, LogicalLine, logical_lines}
 use Rattle.desk_exports.specs.Laws.{takes_part}
 use Rattle.desk_exports.proofs.AscendingEntries.{found_ascend}
-use Rattle.desk_overview.specs.Lines.{LineValue, line_value}
-use Rattle.desk_overview.specs.declared.lines.SiteLine.{SiteLine}
+use Rattle.page_findings.specs.Lines.{LineValue, line_value}
+use Rattle.page_findings.specs.declared.lines.SiteLine.{SiteLine}
 use Rattle.desk_page_filesystem.specs.declared.gutter.Note.{Note}
 use Rattle.desk_report_filesystem.specs.Notes.{LinesAscend, NotesAscend, line_at, site_line_note, logical_line_note, notes_of, not_read}
 

@@ -9,9 +9,9 @@ use Rattle.std.proofs.lemmas.List.Elements.{All-append, All-map, filter-append}
 use Rattle.std.proofs.lemmas.List.Kept.{AllPairs-cons}
 use Rattle.desk_policy.specs.Policy.{AreAscending, Content, rows_of}
 use Rattle.desk_policy.specs.declared.row.Row.{Row}
-use Rattle.desk_overview.specs.Lines.{AreLinesOfSite, LineValue, PlacedRow, line_value, placed, placed_in, rows_in}
-use Rattle.desk_overview.specs.declared.lines.SiteLine.{SiteLine}
-use Rattle.desk_overview.proofs.Mapped.{filter_mapped}
+use Rattle.page_findings.specs.Lines.{AreLinesOfSite, LineValue, PlacedRow, line_value, placed, placed_in, rows_in}
+use Rattle.page_findings.specs.declared.lines.SiteLine.{SiteLine}
+use Rattle.page_findings.proofs.Mapped.{filter_mapped}
 use Rattle.desk_report_filesystem.specs.Notes.{LinesAscend}
 use Rattle.desk_report_filesystem.specs.OwnLines.{AreByFileSystem, lines_in}
 

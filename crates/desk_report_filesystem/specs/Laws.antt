@@ -8,7 +8,7 @@ use Rattle.desk_exports.specs.Files.{text_answer}
 use Rattle.desk_exports.specs.Tables.{TableRows}
 use Rattle.desk_exports.specs.declared.entry.Entry.{Entry}
 use Rattle.desk_exports.specs.declared.files.Scope.{Scope}
-use Rattle.desk_overview.specs.Lines.{LineValue}
+use Rattle.page_findings.specs.Lines.{LineValue}
 use Rattle.desk_report_filesystem.specs.Counting.{outside_private}
 use Rattle.desk_report_filesystem.specs.Notes.{notes_of}
 use Rattle.desk_report_filesystem.specs.Shares.{private_networks}

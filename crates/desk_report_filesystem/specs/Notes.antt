@@ -8,8 +8,8 @@ use Rattle.desk_report.specs.Class.{class_of_terms}
 use Rattle.desk_report.specs.Reasons.{are_all}
 use Rattle.desk_report.specs.declared.reasons.Reason.{Reason}
 use Rattle.desk_report.specs.declared.reasons.Reason.TheVariants as reasons
-use Rattle.desk_overview.specs.Findings.{stands_out}
-use Rattle.desk_overview.specs.Lines.{LineValue}
+use Rattle.page_findings.specs.Findings.{stands_out}
+use Rattle.page_findings.specs.Lines.{LineValue}
 use Rattle.desk_page_filesystem.specs.declared.gutter.Note.{Note}
 use Rattle.desk_page_filesystem.specs.declared.gutter.Said.{Said}
 use Rattle.desk_page_filesystem.specs.declared.gutter.Said.TheVariants.{Grants, MatchesNobody, NeverDecides, NotRead}

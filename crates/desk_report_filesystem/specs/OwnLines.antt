@@ -1,7 +1,7 @@
 -- The lines of one file system among those of a site. (this project's own)
 use Rattle.std.specs.Prelude.{ℕ, ◌≤◌, ◌==◌, List, filter}
 use Rattle.std.specs.List.{AllPairs}
-use Rattle.desk_overview.specs.Lines.{LineValue}
+use Rattle.page_findings.specs.Lines.{LineValue}
 
 -- lines stand in the order of their file systems
 abbrev pub AreByFileSystem : List LineValue → Type 0

@@ -10,7 +10,7 @@ use Rattle.desk_report.specs.Classes.{AreClassesIn, class_run}
 use Rattle.desk_report.specs.Counts.{AreCountsFrom}
 use Rattle.desk_report.specs.Laws.{IsSoundSite}
 use Rattle.desk_report.specs.declared.class.Class.{Class}
-use Rattle.desk_overview.specs.Lines.{AreLinesOfSite, LineValue, line_value}
+use Rattle.page_findings.specs.Lines.{AreLinesOfSite, LineValue, line_value}
 use Rattle.desk_core.specs.declared.head.Head.{Head}
 use Rattle.desk_page_places.specs.Groups.{HasToldSizes}
 use Rattle.desk_page_filesystem.specs.Parts.{IsReadableProposal, file_system}

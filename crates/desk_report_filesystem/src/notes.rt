@@ -4,16 +4,16 @@ ghost use Rattle.std.specs.Prelude.{◌≡◌, ◌++◌, IfOk, OnOk, map};
 ghost use Rattle.std.specs.Option.{option_map, option_to_list};
 ghost use Rattle.desk_text.specs.Lines.{IsReadable};
 ghost use Rattle.desk_exports.specs.Laws.{takes_part};
-ghost use Rattle.desk_overview.specs.Lines.{line_value};
+ghost use Rattle.page_findings.specs.Lines.{line_value};
 ghost use Rattle.desk_report_filesystem.specs.Notes as spec;
 ghost use Rattle.desk_report_filesystem.specs.Notes.{LinesAscend, NotesAscend};
 
 use desk_exports::lines::read_grammar_line;
-use desk_overview::SiteLine;
 use desk_page_filesystem::{Note, Said};
 use desk_report::reasons::are_all;
 use desk_report::{Class, Reason};
 use desk_text::{Line, LogicalLines, ReadError};
+use page_findings::SiteLine;
 use std::alloc::{AllocError, Global};
 
 /// Says of each logical line of a text what it does, given the lines of the file system in their order.

@@ -1,12 +1,12 @@
 //! The lines of one file system among those of a site.
 
 ghost use Rattle.std.specs.Prelude.{◌≡◌, map};
-ghost use Rattle.desk_overview.specs.Lines.{line_value};
+ghost use Rattle.page_findings.specs.Lines.{line_value};
 ghost use Rattle.desk_report_filesystem.specs.OwnLines as spec;
 ghost use Rattle.desk_report_filesystem.specs.OwnLines.{AreByFileSystem};
 
-use desk_overview::SiteLine;
 use desk_tables::FsId;
+use page_findings::SiteLine;
 
 /// Lends the lines of a file system, by two binary searches.
 pub fn lines_in<'b, 'a>(lines: &'b [SiteLine<'a>], fs: FsId) -> &'b [SiteLine<'a>]

@@ -16,14 +16,13 @@ use crate::notes::notes_of;
 use crate::own_lines::lines_in;
 use crate::shares::{Shares, shares_of};
 use desk_core::Head;
-use desk_overview::SiteLine;
 use desk_page_filesystem::{FileSystemPart, Note, ProposalPart, push_file_system};
 use desk_page_places::GroupPart;
-use desk_page_words::Finding;
 use desk_policy::Policy;
 use desk_report::Class;
 use desk_tables::{FsId, Mount};
 use desk_who::Run;
+use page_findings::{Finding, SiteLine};
 use std::alloc::{AllocError, Global};
 
 /// What the part on a file system is made of.

@@ -14,7 +14,7 @@ use Rattle.desk_report.specs.Values.{AreRunsOfSome}
 use Rattle.desk_report.specs.declared.class.Class.{Class}
 use Rattle.desk_report.specs.declared.lines.LineReasons.{LineReasons}
 use Rattle.desk_report.specs.declared.systems.FileSystemReport.{FileSystemReport}
-use Rattle.desk_deciding.specs.Deciding.{AreDecidedFor, AreInLineOrder, AreSectionsOf, DecidedFor}
+use Rattle.page_findings.specs.Deciding.{AreDecidedFor, AreInLineOrder, AreSectionsOf, DecidedFor}
 use Rattle.page_maps.specs.Figures.{GainsOverviewMaps}
 use Rattle.desk_report_page.specs.FoundInSite.{AreDecidedOfSite, AreSmallMaps}
 

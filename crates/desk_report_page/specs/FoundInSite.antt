@@ -11,8 +11,8 @@ use Rattle.desk_report.specs.Classes.{AreClassesOfSite}
 use Rattle.desk_report.specs.Systems.{AreSystems, SystemValue}
 use Rattle.desk_report.specs.declared.class.Class.{Class}
 use Rattle.desk_report.specs.declared.lines.LineReasons.{LineReasons}
-use Rattle.desk_overview.specs.Lines.{AreLinesOfSite, AreReasonsOfSite, LineValue}
-use Rattle.desk_deciding.specs.Deciding.{AreDecidedFor, DecidedFor}
+use Rattle.page_findings.specs.Lines.{AreLinesOfSite, AreReasonsOfSite, LineValue}
+use Rattle.page_findings.specs.Deciding.{AreDecidedFor, DecidedFor}
 use Rattle.page_maps.specs.Figures.{GainsOverviewMaps}
 use Rattle.desk_report_page.specs.WaitingProposals.{Waiting}
 

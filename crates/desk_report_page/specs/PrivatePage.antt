@@ -3,8 +3,8 @@ use Rattle.std.specs.Prelude.{All, List, map}
 use Rattle.std.specs.String.{string_bytes}
 use Rattle.desk_policy.specs.Policy.{Content}
 use Rattle.desk_core.specs.Head.{CanBeKept}
-use Rattle.desk_deciding.specs.Deciding.{AreInLineOrder, DecidedFor, deciding_value}
-use Rattle.desk_overview.specs.Lines.{AreReasonsOfSite, LineValue}
+use Rattle.page_findings.specs.Deciding.{AreInLineOrder, DecidedFor, deciding_value}
+use Rattle.page_findings.specs.Lines.{AreReasonsOfSite, LineValue}
 use Rattle.desk_report.specs.Laws.{IsSoundSite}
 use Rattle.desk_report.specs.Systems.{SystemValue}
 use Rattle.desk_report_page.specs.SystemParts.{TellingValue}

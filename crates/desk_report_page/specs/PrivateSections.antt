@@ -1,8 +1,8 @@
 -- What the private contracts of the sections cite.
 use Rattle.std.specs.Prelude.{All, map}
 use Rattle.std.specs.String.{string_bytes}
-use Rattle.desk_deciding.specs.Deciding.{AreInLineOrder, deciding_value}
-use Rattle.desk_overview.specs.Lines.{line_value}
+use Rattle.page_findings.specs.Deciding.{AreInLineOrder, deciding_value}
+use Rattle.page_findings.specs.Lines.{line_value}
 use Rattle.desk_report.specs.Laws.{IsSoundSite}
 use Rattle.desk_report.specs.Systems.{system_value}
 use Rattle.desk_report_page.specs.FoundInSite.{Found, IsFound}

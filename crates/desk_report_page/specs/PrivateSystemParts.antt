@@ -8,8 +8,8 @@ use Rattle.desk_report.specs.Classes.{AreClassesIn, class_run}
 use Rattle.desk_report.specs.Laws.{IsSoundSite}
 use Rattle.desk_report.specs.Sections.{AreSections}
 use Rattle.desk_report.specs.Systems.{IsSystem, SystemValue}
-use Rattle.desk_overview.specs.Lines.{AreLinesOfSite, line_value}
-use Rattle.desk_deciding.specs.Deciding.{AreInLineOrder, deciding_value}
+use Rattle.page_findings.specs.Lines.{AreLinesOfSite, line_value}
+use Rattle.page_findings.specs.Deciding.{AreInLineOrder, deciding_value}
 use Rattle.desk_report.specs.Opening.{opening_section}
 use Rattle.desk_page_places.specs.Groups.{HasToldSizes}
 use Rattle.desk_page_filesystem.specs.Parts.{file_system}

@@ -13,15 +13,15 @@ use Rattle.desk_impact.specs.Sections.{PlaceBreaches, PlaceFound}
 use Rattle.desk_report.specs.declared.opening.Opening.{Opening}
 use Rattle.desk_report.specs.Classes.{class_run}
 use Rattle.desk_report.specs.Systems.{SystemValue}
-use Rattle.desk_overview.specs.Lines.{LineValue, line_value}
-use Rattle.desk_deciding.specs.Deciding.{DecidedFor}
+use Rattle.page_findings.specs.Lines.{LineValue, line_value}
+use Rattle.page_findings.specs.Deciding.{DecidedFor}
 use Rattle.desk_page_filesystem.specs.Parts.{file_system}
 use Rattle.desk_page_filesystem.specs.declared.outcomes.Outcome.{Outcome}
 use Rattle.desk_page_filesystem.specs.declared.outcomes.Outcome.TheVariants.{Changes, Refused}
 use Rattle.desk_page_filesystem.specs.declared.parts.FileSystemPart.{FileSystemPart}
 use Rattle.desk_page_filesystem.specs.declared.parts.ProposalPart.{ProposalPart}
 use Rattle.page_maps.specs.Figures.{GainsFileSystemMaps}
-use Rattle.desk_page_words.specs.declared.finding_words.Finding.{Finding}
+use Rattle.page_findings.specs.declared.finding_words.Finding.{Finding}
 use Rattle.desk_report_filesystem.specs.OwnLines.{lines_in}
 use Rattle.desk_report_filesystem.specs.Parts.{IsPartOf}
 use Rattle.desk_report_filesystem.specs.declared.parts.FileSystemData.{FileSystemData}

@@ -2,8 +2,8 @@
 
 ghost use Rattle.std.specs.Prelude.{[], All, IfOk, map};
 ghost use Rattle.std.specs.String.{string_bytes};
-ghost use Rattle.desk_deciding.specs.Deciding.{AreInLineOrder, deciding_value};
-ghost use Rattle.desk_overview.specs.Lines.{AreReasonsOfSite};
+ghost use Rattle.page_findings.specs.Deciding.{AreInLineOrder, deciding_value};
+ghost use Rattle.page_findings.specs.Lines.{AreReasonsOfSite};
 ghost use Rattle.page_maps.specs.Figures.{GainsOverviewMaps};
 ghost use Rattle.desk_report.specs.Classes.{class_run};
 ghost use Rattle.desk_report.specs.Laws.{IsSoundSite};
@@ -11,7 +11,7 @@ ghost use Rattle.desk_report.specs.Systems.{AreSystems, system_value};
 ghost use Rattle.desk_report.specs.Values.{AreRunsOfSome};
 ghost use Rattle.desk_report_page.specs.FoundInSite.{AreDecidedOfSite, AreSmallMaps};
 
-use desk_deciding::{Deciding, deciding_lines};
+use page_findings::{Deciding, deciding_lines};
 use desk_policy::Policy;
 use desk_report::{Class, FileSystemReport, LineReasons, classes_of_site};
 use desk_tables::FsId;

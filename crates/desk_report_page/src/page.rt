@@ -3,10 +3,10 @@
 ghost use Rattle.std.specs.Prelude.{◌≡◌, [], All, IfOk, OnOk, map};
 ghost use Rattle.std.specs.String.{string_bytes};
 ghost use Rattle.desk_core.specs.Head.{CanBeKept};
-ghost use Rattle.desk_deciding.specs.Deciding.{AreInLineOrder, deciding_value};
+ghost use Rattle.page_findings.specs.Deciding.{AreInLineOrder, deciding_value};
 ghost use Rattle.desk_core.specs.Standing.{standing_in};
-ghost use Rattle.desk_overview.specs.Lines.{AreLinesOfSite, line_value};
-ghost use Rattle.desk_overview.specs.Server.{AreServerOfSite};
+ghost use Rattle.page_findings.specs.Lines.{AreLinesOfSite, line_value};
+ghost use Rattle.page_findings.specs.Server.{AreServerOfSite};
 ghost use Rattle.desk_page_summary.specs.declared.sections.Section.TheVariants.{Each};
 ghost use Rattle.desk_report.specs.Laws.{IsSoundSite};
 ghost use Rattle.desk_report.specs.Systems.{AreSystems, system_value};
@@ -25,15 +25,14 @@ use crate::sections::{Listed, Parts, push_back, push_front};
 use crate::system_parts::{Telling, push_systems};
 use crate::waiting_proposals::Waiting;
 use desk_core::{Head, Proposal};
-use desk_deciding::Deciding;
 use desk_impact::Section as PlaceSection;
-use desk_overview::{SiteLine, lines_of_site, reasons_of_site};
 use desk_page_summary::{Section, push_section_end, push_section_start};
 use desk_policy::{Policy, PolicyView, SiteTables};
 use desk_report::{
     FileSystemReport, LineReasons, Opening, ServerFindings, sites_are_sound, systems_of_site,
 };
 use desk_text::{Path, Sequence};
+use page_findings::{Deciding, SiteLine, lines_of_site, reasons_of_site};
 use std::alloc::{AllocError, Global};
 
 /// What a page is made of.

@@ -16,8 +16,6 @@ ghost use Rattle.desk_report_page.specs.Pieces.{Gains, Just, Then, Told};
 ghost use Rattle.desk_report_page.specs.PrivateSections.{CanBeWritten, parts_found};
 
 use desk_core::{Head, Proposal};
-use desk_deciding::Deciding;
-use desk_overview::SiteLine;
 use desk_page_lists::{push_how_to_read, push_make_again};
 use desk_page_networks::push_networks;
 use desk_page_summary::{
@@ -33,6 +31,7 @@ use desk_report_summary::{
     SystemsData, push_figures_of, push_findings_of, push_flavours_of, push_overview_of,
 };
 use desk_text::Sequence;
+use page_findings::{Deciding, SiteLine};
 use page_html::push_page_head;
 use page_maps::push_shapes;
 use std::alloc::{AllocError, Global};

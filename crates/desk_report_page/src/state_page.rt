@@ -11,10 +11,10 @@ use crate::foreseen_sites::waiting_of;
 use crate::page::{ReportedSite, report_page};
 use desk_core::{State, compile_heads};
 use desk_index::Index;
-use desk_overview::server_of_site;
 use desk_policy::{PolicyView, SiteFault};
 use desk_report::{openings_of_site, sites_are_sound};
 use desk_text::{Path, ReadError};
+use page_findings::server_of_site;
 use std::alloc::{AllocError, Global};
 
 /// Makes the page of a state, given the word that names its database. Its policy is read once more from the texts of the newest

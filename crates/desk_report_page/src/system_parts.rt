@@ -21,11 +21,9 @@ ghost use Rattle.desk_report_page.specs.WaitingProposals.{waiting_value};
 
 use crate::waiting_proposals::{Outcome, Waiting};
 use desk_core::{Head, newest_among};
-use desk_deciding::Deciding;
 use desk_impact::Section;
-use desk_overview::SiteLine;
 use desk_page_filesystem::{Outcome as ToldOutcome, ProposalPart};
-use desk_page_words::Finding;
+use page_findings::Finding;
 use desk_policy::{Policy, PolicyView, SiteFault, exports_file_name};
 use desk_report::{Class, FileSystemReport, Opening, orders_tell_verdicts};
 use desk_report_filesystem::{FileSystemData, lines_in, push_file_system_of};

@@ -20,7 +20,7 @@ use Rattle.desk_server.specs.declared.wider_grant.WiderGrant.{WiderGrant}
 use Rattle.desk_report.specs.declared.lines.LineReasons.{LineReasons}
 use Rattle.desk_report.specs.declared.reasons.Reason.{Reason}
 use Rattle.desk_report.specs.declared.reasons.Reason.TheVariants.{ForEverybodyReadOnly, ForEverybodyReadWrite, NoClient, RootKeptForNames, RootKeptForNetworks, Wide}
-use Rattle.desk_deciding.specs.Deciding.{AreDeciding, DecidedFor, IsDecidedFor, deciding_of, never_decides}
+use Rattle.page_findings.specs.Deciding.{AreDeciding, DecidedFor, IsDecidedFor, deciding_of, never_decides}
 use Rattle.desk_report_summary.specs.Laws.{NamedLinesDecide}
 
 abbrev reason_line : LineReasons → ℕ

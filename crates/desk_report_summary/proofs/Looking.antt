@@ -2,8 +2,8 @@
 use Rattle.std.proofs.Common.{◌≡◌, ◌<◌, ◌≤◌, ◌∙◌, ℕ, List, [], ap, arith, get_or, length, map, subst, sym}
 use Rattle.std.specs.Prelude.{All}
 use Rattle.std.proofs.lemmas.List.{get_or-map, get_or_past, length-map}
-use Rattle.desk_deciding.specs.Deciding.{AreInLineOrder, deciding_of, deciding_value}
-use Rattle.desk_deciding.specs.declared.deciding.Deciding.{Deciding}
+use Rattle.page_findings.specs.Deciding.{AreInLineOrder, deciding_of, deciding_value}
+use Rattle.page_findings.specs.declared.deciding.Deciding.{Deciding}
 use Rattle.desk_report_summary.specs.SiteFinding.{deciding_for}
 
 module _ (deciding : List Deciding) (fs : ℕ) where

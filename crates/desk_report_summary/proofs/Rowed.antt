@@ -2,7 +2,7 @@
 use Rattle.std.proofs.Common.{◌≡◌, ℕ, ◌+◌, ◌<◌, ◌++◌, ◌∙◌, List, [], ◌∷◌, ap, arith, get_or, inl, inr, length, map, refl, subst, sym}
 use Rattle.std.proofs.lemmas.Bool.{cases_eq}
 use Rattle.std.proofs.lemmas.List.{get_or-map, get_or_append_left, get_or_push, length-append}
-use Rattle.desk_overview.proofs.Adding.{as_many}
+use Rattle.page_findings.proofs.Adding.{as_many}
 use Rattle.desk_policy.specs.Policy.{Content}
 use Rattle.desk_report.specs.Classes.{AreClassesIn, class_run}
 use Rattle.desk_report.specs.Systems.{AreSystems, SystemValue, system_value}

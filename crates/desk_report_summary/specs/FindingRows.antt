@@ -2,9 +2,9 @@
 use Rattle.std.specs.Prelude.{◌≡◌, ◌++◌, ℕ, List, map}
 use Rattle.desk_tables.specs.declared.filesystems.Mount.{Mount}
 use Rattle.desk_core.specs.declared.head.Head.{Head}
-use Rattle.desk_deciding.specs.Deciding.{DecidedFor}
-use Rattle.desk_overview.specs.Findings.{AreFindings}
-use Rattle.desk_overview.specs.Lines.{LineValue}
+use Rattle.page_findings.specs.Deciding.{DecidedFor}
+use Rattle.page_findings.specs.Findings.{AreFindings}
+use Rattle.page_findings.specs.Lines.{LineValue}
 use Rattle.desk_page_summary.specs.Findings.{counted_findings, findings}
 use Rattle.desk_page_summary.specs.declared.findings.FindingRow.{FindingRow}
 use Rattle.desk_report_summary.specs.SiteFinding.{FindingValue, finding_value, findings_among}

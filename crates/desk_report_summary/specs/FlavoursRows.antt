@@ -2,8 +2,8 @@
 use Rattle.std.specs.Prelude.{◌≡◌, ℕ, List, Option, None, Some, map}
 use Rattle.desk_exports.specs.declared.entry.Flavour.{Flavour}
 use Rattle.desk_tables.specs.declared.filesystems.Mount.{Mount}
-use Rattle.desk_overview.specs.Flavours.{AreFlavoursInUse, UseValue}
-use Rattle.desk_overview.specs.Lines.{LineValue}
+use Rattle.page_findings.specs.Flavours.{AreFlavoursInUse, UseValue}
+use Rattle.page_findings.specs.Lines.{LineValue}
 use Rattle.desk_page_lists.specs.declared.mentions.Mention.{Mention}
 use Rattle.desk_page_lists.specs.declared.mentions.Mention.TheVariants.{Group, Host, Line, System}
 use Rattle.desk_page_summary.specs.declared.flavours.FlavoursRow.{FlavoursRow}

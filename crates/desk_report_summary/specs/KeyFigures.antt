@@ -2,8 +2,8 @@
 use Rattle.std.specs.Prelude.{◌≡◌, List, count_by, length}
 use Rattle.desk_policy.specs.Policy.{Content}
 use Rattle.desk_core.specs.declared.proposal.Proposal.{Proposal}
-use Rattle.desk_overview.specs.Figures.{HasDirectories, grants_nothing, is_for_everybody, is_writable_by_everybody, keeps_root_for_networks, keeps_root_for_some}
-use Rattle.desk_overview.specs.Lines.{LineValue}
+use Rattle.page_findings.specs.Figures.{HasDirectories, grants_nothing, is_for_everybody, is_writable_by_everybody, keeps_root_for_networks, keeps_root_for_some}
+use Rattle.page_findings.specs.Lines.{LineValue}
 use Rattle.desk_page_summary.specs.declared.figures.Figures.{Figures}
 
 -- How many file systems there are, and how many of them are guarded; how many lines, and directories that they write; how many lines that

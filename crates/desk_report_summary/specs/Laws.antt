@@ -3,8 +3,8 @@ use Rattle.std.specs.Prelude.{◌≡◌, Contains, List, true}
 use Rattle.desk_policy.specs.Policy.{AreAscending, Content, rows_of}
 use Rattle.desk_report.specs.Lines.{AreLineReasons}
 use Rattle.desk_report.specs.declared.lines.LineReasons.{LineReasons}
-use Rattle.desk_deciding.specs.Deciding.{AreDecidedFor, AreDeciding, DecidedFor, deciding_of, never_decides}
-use Rattle.desk_overview.specs.Lines.{IsLineOf, LineValue}
+use Rattle.page_findings.specs.Deciding.{AreDecidedFor, AreDeciding, DecidedFor, deciding_of, never_decides}
+use Rattle.page_findings.specs.Lines.{IsLineOf, LineValue}
 
 -- The lines that are named in place of one that never decides are just those that decide for its clients.
 abbrev pub NamedLinesDecide : Type 0

@@ -3,9 +3,9 @@ use Rattle.std.specs.Prelude.{ℕ, ◌==◌, ◌∷◌, [], not, Bool, false, Li
 use Rattle.desk_exports.specs.declared.entry.Clients.{Clients}
 use Rattle.desk_exports.specs.declared.entry.Clients.TheVariants.{Hosts, Net, Net6, World}
 use Rattle.desk_exports.specs.declared.entry.Terms.{Terms}
-use Rattle.desk_deciding.specs.Deciding.{DecidedFor, deciding_of}
-use Rattle.desk_overview.specs.Findings.{stands_out}
-use Rattle.desk_overview.specs.Lines.{LineValue}
+use Rattle.page_findings.specs.Deciding.{DecidedFor, deciding_of}
+use Rattle.page_findings.specs.Findings.{stands_out}
+use Rattle.page_findings.specs.Lines.{LineValue}
 use Rattle.desk_report.specs.declared.reasons.Reason.{Reason}
 use Rattle.desk_report_summary.specs.declared.site_finding.SiteFinding.{SiteFinding}
 

@@ -2,17 +2,17 @@
 
 ghost use Rattle.std.specs.Prelude.{◌≡◌, List, OnOk, count_by, map};
 ghost use Rattle.std.specs.String.{string_bytes};
-ghost use Rattle.desk_overview.specs.Figures.{AreFigures};
-ghost use Rattle.desk_overview.specs.Lines.{LineValue, line_value};
+ghost use Rattle.page_findings.specs.Figures.{AreFigures};
+ghost use Rattle.page_findings.specs.Lines.{LineValue, line_value};
 ghost use Rattle.desk_page_summary.specs.Figures as page_spec;
 ghost use Rattle.desk_report_summary.specs.Adding.{Adds};
 ghost use Rattle.desk_report_summary.specs.KeyFigures.{AreKeyFigures};
 
 use desk_core::Proposal;
-use desk_overview::{Figures as SiteFigures, SiteLine, figures_of_site};
 use desk_page_summary::{Figures, push_figures};
 use desk_policy::Policy;
 use desk_tables::Mount;
+use page_findings::{Figures as SiteFigures, SiteLine, figures_of_site};
 use std::alloc::{AllocError, Global};
 
 /// Begins the summary, and adds the key figures of a site, given the lines of all its file systems, and all proposals.

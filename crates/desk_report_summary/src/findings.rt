@@ -2,8 +2,8 @@
 
 ghost use Rattle.std.specs.Prelude.{◌≡◌, ◌++◌, All, IfOk, OnOk, map};
 ghost use Rattle.std.specs.String.{string_bytes};
-ghost use Rattle.desk_deciding.specs.Deciding.{AreInLineOrder, deciding_value};
-ghost use Rattle.desk_overview.specs.Lines.{line_value};
+ghost use Rattle.page_findings.specs.Deciding.{AreInLineOrder, deciding_value};
+ghost use Rattle.page_findings.specs.Lines.{line_value};
 ghost use Rattle.desk_report_summary.specs.Adding.{Adds};
 ghost use Rattle.desk_report_summary.specs.Files.{line_values};
 ghost use Rattle.desk_report_summary.specs.FindingRows as spec;
@@ -13,12 +13,11 @@ ghost use Rattle.desk_report_summary.specs.SiteFinding.{finding_value};
 use crate::files::{line_in, name_of, texts_in_force};
 use crate::site_finding::{SiteFinding, site_findings};
 use desk_core::Head;
-use desk_deciding::Deciding;
-use desk_overview::{SiteLine, findings_of_site};
 use desk_page_summary::{FindingRow, push_counted_findings, push_findings};
 use desk_policy::Policy;
 use desk_tables::FileSystems;
 use desk_text::Sequence;
+use page_findings::{Deciding, SiteLine, findings_of_site};
 use std::alloc::{AllocError, Global};
 
 /// Adds how many lines stand out, and these lines, given the lines of all file systems, which lines decide in place of those that never do,

@@ -3,8 +3,8 @@
 ghost use Rattle.std.specs.Prelude.{◌≡◌, IfOk, List, OnOk, Some, length, map};
 ghost use Rattle.std.specs.String.{string_bytes};
 ghost use Rattle.desk_tables.specs.declared.filesystems.Mount.{Mount};
-ghost use Rattle.desk_overview.specs.Flavours.{use_value};
-ghost use Rattle.desk_overview.specs.Lines.{line_value};
+ghost use Rattle.page_findings.specs.Flavours.{use_value};
+ghost use Rattle.page_findings.specs.Lines.{line_value};
 ghost use Rattle.desk_page_summary.specs.FlavoursTable.{flavours_table};
 ghost use Rattle.desk_report_summary.specs.Adding.{Adds};
 ghost use Rattle.desk_report_summary.specs.FlavoursRows as spec;
@@ -12,12 +12,12 @@ ghost use Rattle.desk_report_summary.specs.FlavoursRows.{AreFlavoursRows, all_me
 
 use crate::files::name_of;
 use desk_exports::Flavour;
-use desk_overview::{FlavourUse, SiteLine, flavours_in_use};
 use desk_page_lists::Mention;
 use desk_page_summary::{FlavoursRow, push_flavours_table};
 use desk_policy::Policy;
 use desk_tables::{FileSystems, FsId};
 use desk_text::Sequence;
+use page_findings::{FlavourUse, SiteLine, flavours_in_use};
 use std::alloc::{AllocError, Global};
 
 /// Adds the flavours of the lines that grant something, given the lines of all file systems.

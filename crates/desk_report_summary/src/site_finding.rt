@@ -1,16 +1,14 @@
 //! The lines of a site that stand out, as the words of the page tell them.
 
 ghost use Rattle.std.specs.Prelude.{◌≡◌, ◌++◌, All, IfOk, OnOk, map};
-ghost use Rattle.desk_deciding.specs.Deciding.{AreInLineOrder, deciding_value};
-ghost use Rattle.desk_overview.specs.Lines.{line_value};
+ghost use Rattle.page_findings.specs.Deciding.{AreInLineOrder, deciding_value};
+ghost use Rattle.page_findings.specs.Lines.{line_value};
 ghost use Rattle.desk_report_summary.specs.SiteFinding as spec;
 ghost use Rattle.desk_report_summary.specs.SiteFinding.{finding_value};
 
-use desk_deciding::Deciding;
 use desk_exports::Clients;
-use desk_overview::SiteLine;
-use desk_page_words::Finding;
 use desk_tables::FsId;
+use page_findings::{Deciding, Finding, SiteLine};
 use std::alloc::{AllocError, Global};
 
 /// A line that stands out, what its words tell, and to how many addresses it grants something.

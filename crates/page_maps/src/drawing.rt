@@ -11,9 +11,9 @@ use crate::cells::Cell;
 use crate::drawn_maps::DrawnMap;
 use crate::paths::{Shape, push_ground_path, push_mark_path};
 use desk_page::{push_network, push_number};
-use desk_page_words::push_count_words;
 use desk_report::Class;
 use desk_text::Net;
+use page_findings::push_count_words;
 use std::alloc::{AllocError, Global};
 
 /// Adds a map with the numbers of its rows, and a grid.

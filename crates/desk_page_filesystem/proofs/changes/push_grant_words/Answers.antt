@@ -2,7 +2,7 @@ use Rattle.std.proofs.Common.{◌++◌, ◌∙◌, ap}
 use Rattle.std.specs.String.{string_bytes}
 use Rattle.std.proofs.lemmas.Result.{on_ok_weaker}
 use Rattle.desk_page.specs.Terms.{terms_words}
-use Rattle.desk_page_words.specs.Badges.{badge}
+use Rattle.page_findings.specs.Badges.{badge}
 use Rattle.desk_page_filesystem.specs.Changes.{line_words}
 use Rattle.desk_report.specs.Class.{class_of_terms}
 use Rattle.desk_page.proofs.Gaining.{three_pieces}

@@ -1,7 +1,7 @@
 use Rattle.std.proofs.Common.{codes}
 use Rattle.std.specs.String.{string_bytes}
 use Rattle.std.proofs.lemmas.Result.{on_ok_weaker}
-use Rattle.desk_page_words.specs.Badges.{class_parts}
+use Rattle.page_findings.specs.Badges.{class_parts}
 use Rattle.desk_page.proofs.Gaining.{pushed_last, three_pieces}
 use Rattle.desk_page_filesystem.proofs.facts.push_may_mount.Goals as goal
 

@@ -1,7 +1,7 @@
 use Rattle.std.proofs.Common.{codes}
 use Rattle.std.specs.String.{string_bytes}
 use Rattle.std.proofs.lemmas.Result.{on_ok_weaker}
-use Rattle.desk_page_words.specs.FindingWords.{finding_words}
+use Rattle.page_findings.specs.FindingWords.{finding_words}
 use Rattle.desk_page_filesystem.specs.Findings.{item_start}
 use Rattle.desk_page.proofs.Gaining.{pushed_last, three_pieces}
 use Rattle.desk_page_filesystem.proofs.findings.push_item.Goals as goal

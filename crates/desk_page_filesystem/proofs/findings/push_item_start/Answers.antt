@@ -2,7 +2,7 @@ use Rattle.std.proofs.Common.{◌++◌, ◌∙◌, ap, codes}
 use Rattle.std.specs.String.{string_bytes}
 use Rattle.std.proofs.lemmas.Result.{on_ok_weaker}
 use Rattle.desk_page.specs.Pieces.{line_link}
-use Rattle.desk_page_words.specs.Badges.{level_mark}
+use Rattle.page_findings.specs.Badges.{level_mark}
 use Rattle.desk_report.specs.Reasons.{level_of_all}
 use Rattle.desk_page.proofs.Gaining.{five_pieces, pushed_last}
 use Rattle.desk_page_filesystem.proofs.findings.push_item_start.Goals as goal

@@ -2,7 +2,7 @@ use Rattle.std.proofs.Common.{◌++◌, ◌∙◌, ap, codes}
 use Rattle.std.specs.String.{string_bytes}
 use Rattle.std.proofs.lemmas.Result.{on_ok_weaker}
 use Rattle.desk_page.specs.TextRows.{count_cell}
-use Rattle.desk_page_words.specs.Badges.{badge}
+use Rattle.page_findings.specs.Badges.{badge}
 use Rattle.desk_page_filesystem.specs.Gutter.{everybody_words}
 use Rattle.desk_page.proofs.Gaining.{four_pieces}
 use Rattle.desk_page_filesystem.proofs.gutter.push_grant_cells.Goals as goal

@@ -1,7 +1,7 @@
 use Rattle.std.proofs.Common.{codes}
 use Rattle.std.specs.String.{string_bytes}
 use Rattle.desk_page.proofs.Gaining.{three_pieces}
-use Rattle.desk_page_words.specs.Badges.{class_words}
+use Rattle.page_findings.specs.Badges.{class_words}
 use Rattle.desk_page_networks.specs.Cells.{alike, link}
 use Rattle.desk_page_networks.proofs.cells.push_alike.Goals as goal
 

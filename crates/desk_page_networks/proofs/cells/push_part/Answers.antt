@@ -1,7 +1,7 @@
 use Rattle.std.proofs.Common.{codes}
 use Rattle.std.specs.String.{string_bytes}
 use Rattle.desk_page.proofs.Gaining.{three_pieces}
-use Rattle.desk_page_words.specs.Badges.{count_words}
+use Rattle.page_findings.specs.Badges.{count_words}
 use Rattle.desk_page_networks.specs.Cells.{link, part}
 use Rattle.desk_page_networks.proofs.cells.push_part.Goals as goal
 

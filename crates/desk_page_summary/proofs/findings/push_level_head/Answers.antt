@@ -1,6 +1,6 @@
 use Rattle.std.proofs.Common.{◌++◌, ◌∙◌, ap, codes}
 use Rattle.std.specs.String.{string_bytes}
-use Rattle.desk_page_words.specs.Badges.{level_mark}
+use Rattle.page_findings.specs.Badges.{level_mark}
 use Rattle.desk_report.specs.Reasons.{level_of_all}
 use Rattle.desk_page.proofs.Gaining.{three_pieces}
 use Rattle.desk_page_summary.proofs.findings.push_level_head.Goals as goal

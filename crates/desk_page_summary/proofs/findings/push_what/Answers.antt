@@ -1,7 +1,7 @@
 use Rattle.std.proofs.Common.{codes}
 use Rattle.std.specs.String.{string_bytes}
 use Rattle.desk_page.specs.Escaping.{escaped_line}
-use Rattle.desk_page_words.specs.FindingWords.{finding_words}
+use Rattle.page_findings.specs.FindingWords.{finding_words}
 use Rattle.desk_page.proofs.Gaining.{five_pieces}
 use Rattle.desk_page_summary.proofs.findings.push_what.Goals as goal
 

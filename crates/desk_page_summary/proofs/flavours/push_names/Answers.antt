@@ -1,7 +1,7 @@
 use Rattle.std.proofs.Common.{codes}
 use Rattle.std.specs.String.{string_bytes}
 use Rattle.desk_page.specs.Terms.{flavours_words}
-use Rattle.desk_page_words.specs.FindingWords.{flavour_names}
+use Rattle.page_findings.specs.FindingWords.{flavour_names}
 use Rattle.desk_page.proofs.Gaining.{five_pieces}
 use Rattle.desk_page_summary.proofs.flavours.push_names.Goals as goal
 

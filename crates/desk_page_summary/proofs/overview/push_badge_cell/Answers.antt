@@ -1,7 +1,7 @@
 use Rattle.std.proofs.Common.{codes}
 use Rattle.std.specs.String.{string_bytes}
 use Rattle.desk_page.proofs.Gaining.{three_pieces}
-use Rattle.desk_page_words.specs.Badges.{badge}
+use Rattle.page_findings.specs.Badges.{badge}
 use Rattle.desk_page_summary.proofs.overview.push_badge_cell.Goals as goal
 
 pub returns : goal.returns

@@ -1,7 +1,7 @@
 use Rattle.std.proofs.Common.{◌≡◌, map, subst}
 use Rattle.desk_text.specs.Lines.{AreNumberedUp, logical_lines}
 use Rattle.desk_exports.proofs.FileLemmas.{next_left, none_left}
-use Rattle.desk_overview.specs.Lines.{line_value}
+use Rattle.page_findings.specs.Lines.{line_value}
 use Rattle.desk_report_filesystem.specs.Notes.{logical_line_note, notes_of}
 use Rattle.desk_report_filesystem.proofs.Noted.{found_all, found_more, notes_ascend}
 use Rattle.desk_report_filesystem.proofs.notes.notes_of.Goals as goal

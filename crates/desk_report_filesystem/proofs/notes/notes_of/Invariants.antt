@@ -2,7 +2,7 @@
 use Rattle.std.proofs.Common.{◌≡◌, ◌++◌, length, map}
 use Rattle.std.specs.List.{filter_map}
 use Rattle.desk_text.specs.Lines.{logical_lines}
-use Rattle.desk_overview.specs.Lines.{line_value}
+use Rattle.page_findings.specs.Lines.{line_value}
 use Rattle.desk_report_filesystem.specs.Notes.{logical_line_note}
 use Rattle.desk_report_filesystem.proofs.notes.notes_of.Given as goal
 

@@ -2,8 +2,8 @@ use Rattle.std.proofs.Common.{◌-◌, ◌∙◌, ap, arith, drop, length, map, 
 use Rattle.std.specs.Prelude.{◌==◌}
 use Rattle.std.proofs.lemmas.List.{length-drop, take_all}
 use Rattle.std.proofs.lemmas.List.Sorted.{IsPartitionPoint-from_clause}
-use Rattle.desk_overview.specs.Lines.{line_value}
-use Rattle.desk_overview.proofs.Mapped.{filter_mapped}
+use Rattle.page_findings.specs.Lines.{line_value}
+use Rattle.page_findings.proofs.Mapped.{filter_mapped}
 use Rattle.desk_report_filesystem.proofs.Between.{before_parted, between_is, is_before, up_to, up_to_parted}
 use Rattle.desk_report_filesystem.proofs.Standing.{fs_on, kept_by_filesystem}
 use Rattle.desk_report_filesystem.proofs.own_lines.lines_in.Goals as goal

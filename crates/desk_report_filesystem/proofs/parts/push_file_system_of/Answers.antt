@@ -1,5 +1,5 @@
 use Rattle.std.proofs.Common.{map, subst, sym}
-use Rattle.desk_overview.specs.Lines.{line_value}
+use Rattle.page_findings.specs.Lines.{line_value}
 use Rattle.desk_report_filesystem.specs.Notes.{LinesAscend}
 use Rattle.desk_report_filesystem.proofs.Standing.{by_filesystem, own_ascend}
 use Rattle.desk_report_filesystem.proofs.parts.push_file_system_of.Goals as goal

@@ -3,7 +3,7 @@ use Rattle.std.proofs.lemmas.List.{map-append}
 use Rattle.desk_impact.specs.Sections.{section_value}
 use Rattle.desk_report.specs.Lines.{AreLineReasons}
 use Rattle.desk_report.specs.declared.lines.LineReasons.{LineReasons}
-use Rattle.desk_deciding.specs.Deciding.{AreDecidedFor, AreSectionsOf, deciding_value}
+use Rattle.page_findings.specs.Deciding.{AreDecidedFor, AreSectionsOf, deciding_value}
 use Rattle.desk_report_page.proofs.OfSite.{AreFirst, IsDecidedAt, all_decided, as_many, first_more, first_none, in_line_order, reasons_at, sections_at}
 use Rattle.desk_report_page.proofs.found_in_site.deciding_of_site.Goals as goal
 

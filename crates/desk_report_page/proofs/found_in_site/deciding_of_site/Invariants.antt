@@ -1,6 +1,6 @@
 -- The file systems so far, each with which lines decide in it.
 use Rattle.std.proofs.Common.{[], map}
-use Rattle.desk_deciding.specs.Deciding.{deciding_value}
+use Rattle.page_findings.specs.Deciding.{deciding_value}
 use Rattle.desk_report_page.proofs.OfSite.{AreFirst, IsDecidedAt}
 use Rattle.desk_report_page.proofs.found_in_site.deciding_of_site.Given as goal
 

@@ -1,6 +1,6 @@
 use Rattle.std.proofs.Common.{IfOk, map, subst, sym}
 use Rattle.std.specs.String.{string_bytes}
-use Rattle.desk_overview.specs.Lines.{line_value}
+use Rattle.page_findings.specs.Lines.{line_value}
 use Rattle.desk_report.specs.Laws.{IsSoundSite}
 use Rattle.desk_report.specs.Systems.{system_value}
 use Rattle.desk_report_page.specs.FoundInSite.{IsFound}

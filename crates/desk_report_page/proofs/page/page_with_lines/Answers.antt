@@ -1,6 +1,6 @@
 use Rattle.std.proofs.Common.{◌++◌, ◌∙◌, ap, append_assoc, map, refl, subst}
 use Rattle.std.specs.String.{string_bytes}
-use Rattle.desk_overview.specs.Lines.{line_value}
+use Rattle.page_findings.specs.Lines.{line_value}
 use Rattle.desk_report.specs.Systems.{system_value}
 use Rattle.desk_report_page.specs.Given.{site_source}
 use Rattle.desk_report_page.specs.Page.{IsFront}

@@ -1,8 +1,8 @@
 use Rattle.std.proofs.Common.{map}
 use Rattle.std.specs.String.{string_bytes}
 use Rattle.std.proofs.lemmas.Result.{on_ok_weaker}
-use Rattle.desk_deciding.specs.Deciding.{deciding_value}
-use Rattle.desk_overview.specs.Lines.{line_value}
+use Rattle.page_findings.specs.Deciding.{deciding_value}
+use Rattle.page_findings.specs.Lines.{line_value}
 use Rattle.desk_page_summary.specs.Figures.{figures}
 use Rattle.desk_page_summary.specs.FlavoursTable.{flavours_table}
 use Rattle.desk_page_summary.specs.Sections.{section_end}

@@ -1,6 +1,6 @@
 use Rattle.std.proofs.Common.{◌++◌, ◌∙◌, [], ◌∷◌, ap, map, sym, take, take_all}
 use Rattle.std.proofs.lemmas.List.{map_more}
-use Rattle.desk_page_words.specs.declared.finding_words.Finding.{Finding}
+use Rattle.page_findings.specs.declared.finding_words.Finding.{Finding}
 use Rattle.desk_report_summary.specs.declared.site_finding.SiteFinding.{SiteFinding}
 use Rattle.desk_report_page.proofs.system_parts.findings_of.Goals as goal
 

@@ -4,7 +4,7 @@ use Rattle.desk_policy.specs.Policy.{Content}
 use Rattle.desk_page_places.specs.Groups.{HasToldSizes}
 use Rattle.desk_report.specs.Classes.{AreClassesIn, class_run}
 use Rattle.desk_report.specs.Laws.{IsSoundSite}
-use Rattle.desk_overview.specs.Lines.{AreLinesOfSite, line_value}
+use Rattle.page_findings.specs.Lines.{AreLinesOfSite, line_value}
 use Rattle.desk_report_filesystem.specs.Parts.{IsReadableHead}
 use Rattle.desk_report_page.proofs.Parts.{head_readable}
 use Rattle.desk_report_page.proofs.system_parts.push_part.Goals as goal

@@ -2,7 +2,7 @@ use Rattle.std.proofs.Common.{◌∙◌, List, [], ap, map, subst, sym}
 use Rattle.std.specs.String.{string_bytes}
 use Rattle.std.proofs.lemmas.Result.{on_ok_weaker}
 use Rattle.desk_impact.specs.Sections.{Section, section_value}
-use Rattle.desk_overview.specs.Lines.{line_value}
+use Rattle.page_findings.specs.Lines.{line_value}
 use Rattle.page_maps.specs.Figures.{GainsFileSystemMaps}
 use Rattle.desk_report.specs.Classes.{class_run}
 use Rattle.desk_report.specs.Laws.{TellVerdicts}

@@ -1,5 +1,5 @@
 use Rattle.std.proofs.Common.{◌∙◌, ap, map, sym, take_all}
-use Rattle.desk_overview.proofs.Mapped.{map_twice}
+use Rattle.page_findings.proofs.Mapped.{map_twice}
 use Rattle.desk_report_summary.specs.SiteFinding.{finding_value}
 use Rattle.desk_report_summary.specs.declared.site_finding.SiteFinding.{SiteFinding}
 use Rattle.desk_report_summary.specs.Files.{line_values}

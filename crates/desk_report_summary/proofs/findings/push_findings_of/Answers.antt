@@ -1,8 +1,8 @@
 use Rattle.std.proofs.Common.{◌≡◌, ◌++◌, ◌∙◌, List, ap, map}
 use Rattle.std.specs.String.{string_bytes}
 use Rattle.std.proofs.lemmas.Result.{on_ok_weaker}
-use Rattle.desk_deciding.specs.Deciding.{deciding_value}
-use Rattle.desk_overview.specs.Lines.{line_value}
+use Rattle.page_findings.specs.Deciding.{deciding_value}
+use Rattle.page_findings.specs.Lines.{line_value}
 use Rattle.desk_page_summary.specs.declared.findings.FindingRow.{FindingRow}
 use Rattle.desk_report_summary.specs.SiteFinding.{finding_value, findings_among}
 use Rattle.desk_report_summary.specs.Files.{line_values, text_in_force}

@@ -1,7 +1,7 @@
 use Rattle.std.proofs.Common.{◌≡◌, ◌∙◌, List, Option, ap, map, sym, take_all}
-use Rattle.desk_overview.proofs.Mapped.{map_twice}
-use Rattle.desk_overview.specs.Flavours.{use_value}
-use Rattle.desk_overview.specs.declared.flavours.FlavourUse.{FlavourUse}
+use Rattle.page_findings.proofs.Mapped.{map_twice}
+use Rattle.page_findings.specs.Flavours.{use_value}
+use Rattle.page_findings.specs.declared.flavours.FlavourUse.{FlavourUse}
 use Rattle.desk_report_summary.specs.FlavoursRows.{NamedSystem, all_mentioned, row_of, row_value, systems_of}
 use Rattle.desk_report_summary.proofs.Valued.{same_at, told_more}
 use Rattle.desk_report_summary.proofs.flavours.flavours_rows.Goals as goal

@@ -1,7 +1,7 @@
 -- The rows so far.
 use Rattle.std.proofs.Common.{◌≡◌, List, map, take}
 use Rattle.desk_tables.specs.declared.filesystems.Mount.{Mount}
-use Rattle.desk_overview.specs.Flavours.{use_value}
+use Rattle.page_findings.specs.Flavours.{use_value}
 use Rattle.desk_report_summary.specs.FlavoursRows.{all_mentioned, row_of, row_value, systems_of}
 use Rattle.desk_report_summary.proofs.flavours.flavours_rows.Given as goal
 

@@ -1,6 +1,6 @@
 use Rattle.std.proofs.Common.{◌∙◌, ℕ, Some, ap, map, sym, take_all}
 use Rattle.desk_tables.specs.declared.filesystems.FsId.{FsId}
-use Rattle.desk_overview.proofs.Mapped.{map_twice}
+use Rattle.page_findings.proofs.Mapped.{map_twice}
 use Rattle.desk_report_summary.specs.FlavoursRows.{mentioned, named_in}
 use Rattle.desk_report_summary.proofs.Valued.{told_next}
 use Rattle.desk_report_summary.proofs.flavours.mentions_of.Goals as goal

@@ -1,8 +1,8 @@
 use Rattle.std.proofs.Common.{◌∙◌, ap, map, sym, take_all}
 use Rattle.desk_tables.specs.declared.filesystems.FsId.{FsId}
-use Rattle.desk_overview.proofs.Mapped.{map_twice}
-use Rattle.desk_overview.specs.Flavours.{use_value}
-use Rattle.desk_overview.specs.declared.flavours.FlavourUse.{FlavourUse}
+use Rattle.page_findings.proofs.Mapped.{map_twice}
+use Rattle.page_findings.specs.Flavours.{use_value}
+use Rattle.page_findings.specs.declared.flavours.FlavourUse.{FlavourUse}
 use Rattle.desk_report_summary.specs.FlavoursRows.{all_mentioned, all_named, systems_of}
 use Rattle.desk_report_summary.proofs.Valued.{told_more}
 use Rattle.desk_report_summary.proofs.flavours.mentions_of_uses.Goals as goal

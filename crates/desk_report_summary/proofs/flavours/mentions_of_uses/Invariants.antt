@@ -1,6 +1,6 @@
 -- The file systems of the flavours so far.
 use Rattle.std.proofs.Common.{◌≡◌, map, take}
-use Rattle.desk_overview.specs.Flavours.{use_value}
+use Rattle.page_findings.specs.Flavours.{use_value}
 use Rattle.desk_report_summary.specs.FlavoursRows.{all_mentioned, systems_of}
 use Rattle.desk_report_summary.proofs.flavours.mentions_of_uses.Given as goal
 

@@ -2,9 +2,9 @@ use Rattle.std.proofs.Common.{◌≡◌, ◌++◌, ◌∙◌, List, ap, length, 
 use Rattle.std.specs.String.{string_bytes}
 use Rattle.std.proofs.lemmas.Result.{on_ok_weaker}
 use Rattle.desk_tables.specs.declared.filesystems.Mount.{Mount}
-use Rattle.desk_overview.proofs.Mapped.{map_twice}
-use Rattle.desk_overview.specs.Flavours.{use_value}
-use Rattle.desk_overview.specs.declared.flavours.FlavourUse.{FlavourUse}
+use Rattle.page_findings.proofs.Mapped.{map_twice}
+use Rattle.page_findings.specs.Flavours.{use_value}
+use Rattle.page_findings.specs.declared.flavours.FlavourUse.{FlavourUse}
 use Rattle.desk_page_lists.specs.declared.mentions.Mention.{Mention}
 use Rattle.desk_page_summary.specs.FlavoursTable.{flavours_table}
 use Rattle.desk_page_summary.specs.declared.flavours.FlavoursRow.{FlavoursRow}

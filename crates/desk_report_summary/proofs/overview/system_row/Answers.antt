@@ -5,7 +5,7 @@ use Rattle.std.specs.String.{string_bytes}
 use Rattle.std.proofs.lemmas.List.{get_or-map, get_or_default}
 use Rattle.std.proofs.lemmas.Option.{slice_get-map, slice_get_read}
 use Rattle.desk_core.specs.Head.{newest_in}
-use Rattle.desk_overview.proofs.Adding.{as_many}
+use Rattle.page_findings.proofs.Adding.{as_many}
 use Rattle.desk_policy.specs.SiteFile.{exports_file_name}
 use Rattle.desk_report.specs.Classes.{class_run}
 use Rattle.desk_report.specs.Systems.{system_value}

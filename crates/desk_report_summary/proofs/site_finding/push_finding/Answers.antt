@@ -1,7 +1,7 @@
 use Rattle.std.proofs.Common.{◌≡◌, ◌++◌, ◌∙◌, Bool, cond, false, [], ◌∷◌, ap, map, rules, sym, true}
 use Rattle.std.proofs.lemmas.List.{append-nil, map-append}
-use Rattle.desk_deciding.specs.Deciding.{deciding_value}
-use Rattle.desk_overview.specs.Lines.{line_value}
+use Rattle.page_findings.specs.Deciding.{deciding_value}
+use Rattle.page_findings.specs.Lines.{line_value}
 use Rattle.desk_report_summary.specs.SiteFinding.{finding_of, finding_value}
 use Rattle.desk_report_summary.proofs.site_finding.push_finding.Goals as goal
 

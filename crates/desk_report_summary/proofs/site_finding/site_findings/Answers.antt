@@ -2,9 +2,9 @@ use Rattle.std.proofs.Common.{◌∙◌, [], ap, map, sym}
 use Rattle.std.specs.List.{flat_map}
 use Rattle.std.proofs.lemmas.List.{take_all}
 use Rattle.std.proofs.lemmas.List.Folds.{flat_map-map}
-use Rattle.desk_deciding.specs.Deciding.{deciding_value}
-use Rattle.desk_overview.specs.Lines.{line_value}
-use Rattle.desk_overview.specs.declared.lines.SiteLine.{SiteLine}
+use Rattle.page_findings.specs.Deciding.{deciding_value}
+use Rattle.page_findings.specs.Lines.{line_value}
+use Rattle.page_findings.specs.declared.lines.SiteLine.{SiteLine}
 use Rattle.desk_report.proofs.Gathered.{writes}
 use Rattle.desk_report_summary.specs.SiteFinding.{finding_if, finding_value}
 use Rattle.desk_report_summary.proofs.Standing.{standing_out}

@@ -1,8 +1,8 @@
 -- The lines so far that stand out.
 use Rattle.std.proofs.Common.{◌≡◌, map, take}
 use Rattle.std.specs.List.{flat_map}
-use Rattle.desk_deciding.specs.Deciding.{deciding_value}
-use Rattle.desk_overview.specs.Lines.{line_value}
+use Rattle.page_findings.specs.Deciding.{deciding_value}
+use Rattle.page_findings.specs.Lines.{line_value}
 use Rattle.desk_report_summary.specs.SiteFinding.{finding_if, finding_value}
 use Rattle.desk_report_summary.proofs.site_finding.site_findings.Given as goal
 

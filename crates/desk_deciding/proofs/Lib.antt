@@ -1,9 +1,0 @@
-pub mod Containing
-pub mod Sets
-pub mod Searched
-pub mod Places
-pub mod Named
-pub mod Matched
-pub mod Told
-pub mod Kept
-pub mod Ordered

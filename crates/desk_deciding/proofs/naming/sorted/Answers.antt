@@ -1,5 +1,0 @@
-use Rattle.desk_deciding.proofs.Sets.{set_is}
-use Rattle.desk_deciding.proofs.naming.sorted.Goals as goal
-
-pub returns : goal.returns
-returns c = set_is _ _ _ c.sort_unstable.ensures.permutation c.sort_unstable.ensures.sorted c.dedup.ensures.filtered

@@ -1,2 +1,0 @@
-pub mod Badges
-pub mod FindingWords

@@ -1,0 +1,16 @@
+pub mod Mapped
+pub mod Adding
+pub mod Distinct
+pub mod Counted
+pub mod Telling
+pub mod Serving
+pub mod Using
+pub mod Containing
+pub mod Sets
+pub mod Searched
+pub mod Places
+pub mod Named
+pub mod Matched
+pub mod Told
+pub mod Kept
+pub mod Ordered

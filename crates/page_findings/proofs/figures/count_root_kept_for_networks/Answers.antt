@@ -1,0 +1,14 @@
+use Rattle.std.proofs.Common.{◌∙◌, rules}
+use Rattle.std.proofs.lemmas.Iterator.{YieldsList-from_slice}
+use Rattle.std.proofs.lemmas.Iterator.Consumers.{YieldsList-from_filter, count_from_yields_List}
+use Rattle.std.proofs.lemmas.List.Sums.{length-filter}
+use Rattle.page_findings.specs.Figures.{keeps_root_for_networks}
+use Rattle.page_findings.specs.Lines.{line_value}
+use Rattle.page_findings.proofs.Mapped.{count_mapped}
+use Rattle.page_findings.proofs.figures.count_root_kept_for_networks.Goals as goal
+
+pub returns : goal.returns
+returns c =
+    count_from_yields_List c.filter.result _ c.count.ensures.ran
+    (YieldsList-from_filter _ (λ line. keeps_root_for_networks (line_value line)) (YieldsList-from_slice c.args.lines.now cc) c.filter.ensures.closure (λ x r q k. search rules))
+    ∙ length-filter (λ line. keeps_root_for_networks (line_value line)) c.args.lines.now ∙ count_mapped line_value keeps_root_for_networks c.args.lines.now

@@ -1,0 +1,12 @@
+pub mod Server
+pub mod Lines
+pub mod PrivateLines
+pub mod Findings
+pub mod Figures
+pub mod Flavours
+pub mod PrivateFlavours
+pub mod Laws
+pub mod Deciding
+pub mod PrivateDeciding
+pub mod Badges
+pub mod FindingWords
