@@ -8,7 +8,7 @@ use Rattle.desk_maps.specs.LineNetworks.{written_networks}
 use Rattle.desk_page.specs.Amounts.{plural}
 use Rattle.desk_page.specs.Ranges.{network_text}
 use Rattle.desk_page.specs.TextRows.{count_cell}
-use Rattle.desk_page_lists.specs.Tables.{row_end, table_end}
+use Rattle.page_lists.specs.Tables.{row_end, table_end}
 use Rattle.desk_page_networks.specs.Cells.{alike_cell, parts_cell}
 use Rattle.desk_page_networks.specs.Rows.{AreNetworkRows}
 use Rattle.desk_page_networks.specs.declared.rows.NetworkRow.{NetworkRow}

@@ -11,10 +11,10 @@ use crate::cells::{push_alike_cell, push_parts_cell};
 use crate::rows::{NetworkRow, network_rows, size_of};
 use desk_maps::written_in_site;
 use desk_page::{push_count_cell, push_network, push_plural};
-use desk_page_lists::{push_row_end, push_table_end};
 use desk_policy::Policy;
 use desk_report::FileSystemReport;
 use desk_text::Net;
+use page_lists::{push_row_end, push_table_end};
 use std::alloc::{AllocError, Global};
 
 /// So many networks are listed.

@@ -6,8 +6,8 @@ ghost use Rattle.desk_page_summary.specs.FlavoursTable as spec;
 
 use desk_exports::Flavour;
 use desk_page::{push_count_cell, push_flavours};
-use desk_page_lists::{Mention, Table, push_row_end, push_some, push_table_end, push_table_start};
 use desk_page_words::push_flavour_names;
+use page_lists::{Mention, Table, push_row_end, push_some, push_table_end, push_table_start};
 use std::alloc::{AllocError, Global};
 
 /// How many file systems a cell names.

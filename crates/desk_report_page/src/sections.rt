@@ -3,12 +3,12 @@
 ghost use Rattle.std.specs.Prelude.{◌≤◌, [], OnOk, length};
 ghost use Rattle.std.specs.String.{string_bytes};
 ghost use Rattle.desk_core.specs.Standing.{standing_in};
-ghost use Rattle.desk_page_lists.specs.Reading.{how_to_read};
+ghost use Rattle.page_lists.specs.Reading.{how_to_read};
 ghost use Rattle.desk_page_networks.specs.Table.{GainsNetworks};
 ghost use Rattle.desk_page_summary.specs.Header.{header};
 ghost use Rattle.desk_page_summary.specs.Sections.{footer};
 ghost use Rattle.desk_page_summary.specs.declared.sections.Section.TheVariants.{Files, Names, Networks, Systems, Warnings};
-ghost use Rattle.desk_report_lists.specs.Warnings.{AddsWarnings};
+ghost use Rattle.page_lists.specs.Warnings.{AddsWarnings};
 ghost use Rattle.desk_report_summary.specs.SystemRows.{AreOverviewRows, overview_text};
 ghost use Rattle.desk_report_page.specs.Page as spec;
 ghost use Rattle.desk_report_page.specs.Page.{InSection, IsHeader};
@@ -18,7 +18,6 @@ ghost use Rattle.desk_report_page.specs.PrivateSections.{CanBeWritten, parts_fou
 use desk_core::{Head, Proposal};
 use desk_deciding::Deciding;
 use desk_overview::SiteLine;
-use desk_page_lists::{push_how_to_read, push_make_again};
 use desk_page_maps::push_shapes;
 use desk_page_networks::push_networks;
 use desk_page_summary::{
@@ -26,15 +25,15 @@ use desk_page_summary::{
 };
 use desk_policy::{Policy, SiteTables};
 use desk_report::{FileSystemReport, LineReasons};
-use desk_report_lists::{
-    index_of_names, push_files_of, push_hosts_of, push_netgroups_of, push_warnings_of,
-    revisions_and_files, state_digest,
-};
 use desk_report_summary::{
     SystemsData, push_figures_of, push_findings_of, push_flavours_of, push_overview_of,
 };
 use desk_text::Sequence;
 use page_html::push_page_head;
+use page_lists::{
+    index_of_names, push_files_of, push_hosts_of, push_how_to_read, push_make_again,
+    push_netgroups_of, push_warnings_of, revisions_and_files, state_digest,
+};
 use std::alloc::{AllocError, Global};
 
 /// What the sections are made of: the policy in force and the tables of its site, the newest revisions and the proposals, and what is

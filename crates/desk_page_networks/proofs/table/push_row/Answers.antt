@@ -3,7 +3,7 @@ use Rattle.std.specs.String.{string_bytes}
 use Rattle.desk_text.specs.Network.{block_size}
 use Rattle.desk_page.specs.TextRows.{count_cell}
 use Rattle.desk_page.proofs.Gaining.{five_pieces}
-use Rattle.desk_page_lists.specs.Tables.{row_end}
+use Rattle.page_lists.specs.Tables.{row_end}
 use Rattle.desk_page_networks.specs.Cells.{alike_cell, parts_cell}
 use Rattle.desk_page_networks.specs.Table.{row, row_head}
 use Rattle.desk_page_networks.proofs.table.push_row.Goals as goal

@@ -1,6 +1,6 @@
 use Rattle.std.specs.String.{string_bytes}
 use Rattle.desk_page.proofs.Gaining.{four_pieces}
-use Rattle.desk_page_lists.specs.Tables.{table_end}
+use Rattle.page_lists.specs.Tables.{table_end}
 use Rattle.desk_page_networks.specs.Table.{left_out, rows}
 use Rattle.desk_page_networks.specs.declared.table.TheConstants.{START}
 use Rattle.desk_page_networks.proofs.table.push_some_networks.Goals as goal
