@@ -6,10 +6,10 @@ use Rattle.desk_page.specs.Terms.{flavours_words}
 use Rattle.desk_page.specs.TextRows.{count_cell}
 use Rattle.desk_page_words.specs.FindingWords.{flavour_names}
 use Rattle.page_lists.specs.Mentions.{some_of}
-use Rattle.page_lists.specs.Tables.{row_end, table_end, table_start}
+use Rattle.desk_page_summary.specs.Tables.{row_end, table_end, table_start}
 use Rattle.desk_page_summary.specs.declared.flavours.FlavoursRow.{FlavoursRow}
 use Rattle.page_lists.specs.declared.mentions.Mention.{Mention}
-use Rattle.page_lists.specs.declared.tables.Table.TheVariants.{Flavours}
+use Rattle.desk_page_summary.specs.declared.tables.Table.TheVariants.{Flavours}
 
 -- the beginning of a row: the flavours, as lines write them and in words
 abbrev pub names : List Flavour → List ℕ

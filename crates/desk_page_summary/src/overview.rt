@@ -6,13 +6,13 @@ ghost use Rattle.std.specs.String.{string_bytes};
 ghost use Rattle.desk_page_summary.specs.Overview as spec;
 
 use crate::addresses::push_part_cell;
+use crate::tables::{Table, push_row_end, push_table_end, push_table_start};
 use desk_core::Head;
 use desk_page::{push_code, push_code_list, push_number, push_system_link, push_zero};
 use desk_page_words::push_badge;
 use desk_report::Class;
 use desk_tables::FsId;
 use desk_text::Text;
-use page_lists::{Table, push_row_end, push_table_end, push_table_start};
 use std::alloc::{AllocError, Global};
 
 /// The key of the maps.

@@ -24,7 +24,7 @@ mod ranges;
 pub mod reading;
 pub mod shell;
 pub mod state;
-pub mod tables;
+mod tables;
 mod uses;
 pub mod warnings;
 
@@ -40,7 +40,4 @@ pub use netgroups::{NetgroupRow, push_netgroups, push_netgroups_of};
 pub use reading::push_how_to_read;
 pub use shell::shell_word;
 pub use state::state_digest;
-pub use tables::{
-    Table, push_fold_end, push_fold_start, push_row_end, push_table_end, push_table_start,
-};
 pub use warnings::{WarningRow, push_warnings, push_warnings_of};

@@ -1,8 +1,8 @@
 use Rattle.std.proofs.Common.{◌++◌, ◌∙◌, ap, sym}
 use Rattle.std.specs.String.{string_bytes}
 use Rattle.std.proofs.lemmas.Result.{on_ok_weaker}
-use Rattle.page_lists.specs.Tables.{table_start}
-use Rattle.page_lists.proofs.tables.push_table_start.Goals as goal
+use Rattle.desk_page_summary.specs.Tables.{table_start}
+use Rattle.desk_page_summary.proofs.tables.push_table_start.Goals as goal
 
 pub returns-in-Findings : goal.returns-in-Findings
 unfolding table_start
