@@ -22,11 +22,11 @@ use Rattle.desk_page_summary.specs.declared.header.Header.{Header}
 use Rattle.desk_page_summary.specs.declared.sections.Section.{Section}
 use Rattle.desk_page_summary.specs.declared.sections.Section.TheVariants.{Each, Files, Names, Networks, Systems, Warnings}
 use Rattle.page_html.specs.Head.{page_head}
-use Rattle.page_lists.specs.Amounts.{revisions_of}
+use Rattle.desk_report_summary.specs.Amounts.{revisions_of}
 use Rattle.page_lists.specs.Files.{AddsFiles}
 use Rattle.page_lists.specs.Hosts.{AddsHosts}
 use Rattle.page_lists.specs.Netgroups.{AddsNetgroups}
-use Rattle.page_lists.specs.State.{IsStateDigest}
+use Rattle.desk_report_summary.specs.State.{IsStateDigest}
 use Rattle.page_lists.specs.Warnings.{AddsWarnings}
 use Rattle.desk_report_summary.specs.FindingRows.{AreFindingRows, findings_text}
 use Rattle.desk_report_summary.specs.FlavoursRows.{AreFlavoursRows}

@@ -27,12 +27,13 @@ use desk_policy::{Policy, SiteTables};
 use desk_report::{FileSystemReport, LineReasons};
 use desk_report_summary::{
     SystemsData, push_figures_of, push_findings_of, push_flavours_of, push_overview_of,
+    revisions_and_files, state_digest,
 };
 use desk_text::Sequence;
 use page_html::push_page_head;
 use page_lists::{
     index_of_names, push_files_of, push_hosts_of, push_how_to_read, push_make_again,
-    push_netgroups_of, push_warnings_of, revisions_and_files, state_digest,
+    push_netgroups_of, push_warnings_of,
 };
 use std::alloc::{AllocError, Global};
 

@@ -1,4 +1,5 @@
-//! The summary of the page of a report, made of what is found of a site; and what the words of the page tell of each line that stands out.
+//! The summary of the page of a report, made of what is found of a site, with the digest of its state; and what the words
+//! of the page tell of each line that stands out.
 //!
 //! ```text
 //! let lines = lines_of_site(alloc, policy, systems.as_slice(), reasons.as_slice())?;
@@ -8,6 +9,7 @@
 //! ```
 #![tactic(auto)]
 
+pub mod amounts;
 pub mod figures;
 mod files;
 pub mod findings;
@@ -16,10 +18,13 @@ pub mod laws;
 pub mod overview;
 mod reach;
 pub mod site_finding;
+pub mod state;
 
+pub use amounts::revisions_and_files;
 pub use figures::push_figures_of;
 pub use findings::push_findings_of;
 pub use flavours::push_flavours_of;
 pub use laws::named_lines_decide;
 pub use overview::{SystemsData, push_overview_of};
 pub use site_finding::{SiteFinding, site_findings};
+pub use state::state_digest;

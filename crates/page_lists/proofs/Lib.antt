@@ -1,4 +1,3 @@
-mod Adding
 mod Counting
 mod Gathering
 mod HostNames

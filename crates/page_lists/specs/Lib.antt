@@ -1,4 +1,3 @@
-pub mod Amounts
 pub mod Digests
 pub mod Files
 pub mod Hosts
@@ -14,7 +13,6 @@ pub mod PrivateUses
 pub mod Ranges
 pub mod Reading
 pub mod Shell
-pub mod State
 pub mod Tables
 pub mod Uses
 pub mod Warnings

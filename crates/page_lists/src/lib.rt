@@ -11,7 +11,6 @@
 //! ```
 #![tactic(auto)]
 
-pub mod amounts;
 pub mod digests;
 pub mod files;
 pub mod hosts;
@@ -23,12 +22,10 @@ pub mod netgroups;
 mod ranges;
 pub mod reading;
 pub mod shell;
-pub mod state;
 mod tables;
 mod uses;
 pub mod warnings;
 
-pub use amounts::revisions_and_files;
 pub use digests::text_digest;
 pub use files::{FileRow, push_files, push_files_of};
 pub use hosts::{HostKind, HostRow, push_hosts, push_hosts_of};
@@ -39,5 +36,4 @@ pub use name_index::{WrittenName, index_of_names};
 pub use netgroups::{NetgroupRow, push_netgroups, push_netgroups_of};
 pub use reading::push_how_to_read;
 pub use shell::shell_word;
-pub use state::state_digest;
 pub use warnings::{WarningRow, push_warnings, push_warnings_of};

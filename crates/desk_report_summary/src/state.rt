@@ -5,12 +5,12 @@ ghost use Rattle.std.specs.Option.{option_copied};
 ghost use Rattle.std.specs.String.{string_bytes};
 ghost use Rattle.desk_core.specs.Listing.{file_of};
 ghost use Rattle.desk_core.specs.Standing.{standing_in};
-ghost use Rattle.page_lists.specs.State as spec;
+ghost use Rattle.desk_report_summary.specs.State as spec;
 
-use crate::digests::text_digest;
 use desk_core::{Head, HeldFile, Proposal, held_files};
 use desk_policy::SiteFile;
 use desk_text::Text;
+use page_lists::text_digest;
 use std::alloc::{AllocError, Global};
 
 /// Makes the digest of the state with these newest revisions and proposals.

@@ -1,8 +1,8 @@
 use Rattle.std.proofs.Common.{ℕ, ◌+◌, ◌-◌, ◌∙◌, ap}
 use Rattle.std.specs.Prelude.{◌^◌, min}
 use Rattle.desk_core.specs.declared.head.Head.{Head}
-use Rattle.page_lists.proofs.Adding.{most_more}
-use Rattle.page_lists.proofs.amounts.revisions_and_files.Goals as goal
+use Rattle.desk_report_summary.proofs.Revisions.{most_more}
+use Rattle.desk_report_summary.proofs.amounts.revisions_and_files.Goals as goal
 
 abbrev rev_of : Head → ℕ
 rev_of head = head.rev

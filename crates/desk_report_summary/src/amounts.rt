@@ -1,7 +1,7 @@
 //! How many revisions and files a database has.
 
 ghost use Rattle.std.specs.Prelude.{◌≡◌, length};
-ghost use Rattle.page_lists.specs.Amounts as spec;
+ghost use Rattle.desk_report_summary.specs.Amounts as spec;
 
 use desk_core::Head;
 
