@@ -5,8 +5,8 @@ use desk_cases_texts::answers::Asked;
 use desk_cases_texts::sites::say_fault;
 use desk_core::{State, can_be_kept, can_be_pending};
 use desk_index::Index;
-use desk_report_lists::text_digest;
 use desk_report_page::page_of_state;
+use page_lists::text_digest;
 use std::alloc::Global;
 use std::mem;
 

@@ -8,7 +8,8 @@ use Rattle.page_maps.specs.LineNetworks.{written_networks}
 use Rattle.desk_page.specs.Amounts.{plural}
 use Rattle.desk_page.specs.Ranges.{network_text}
 use Rattle.desk_page.specs.TextRows.{count_cell}
-use Rattle.desk_page_lists.specs.Tables.{row_end, table_end}
+use Rattle.page_html.specs.Blocks.{tag_html}
+use Rattle.page_html.specs.declared.blocks.Tag.TheVariants.{TableEnd}
 use Rattle.desk_page_networks.specs.Cells.{alike_cell, parts_cell}
 use Rattle.desk_page_networks.specs.Rows.{AreNetworkRows}
 use Rattle.desk_page_networks.specs.declared.rows.NetworkRow.{NetworkRow}
@@ -21,7 +22,7 @@ row_head block = codes "<tr><th scope=\"row\">" ++ network_text block.first bloc
 -- a row: the network, how many addresses it has, and what they may on which file systems
 unfoldable pub row : Content → NetworkRow → List ℕ
 row content one =
-    row_head one.network ++ count_cell (block_size one.network.prefix) ++ alike_cell content one.alike ++ parts_cell content one.parts ++ row_end
+    row_head one.network ++ count_cell (block_size one.network.prefix) ++ alike_cell content one.alike ++ parts_cell content one.parts ++ codes "</tr>\n"
 
 unfoldable pub rows : Content → List NetworkRow → List ℕ
 rows content all = flat_map (row content) all
@@ -36,7 +37,7 @@ left_out count = if count == 0 then [] else not_listed count
 
 -- the table, if there is a network
 abbrev pub some_networks : Content → List NetworkRow → ℕ → List ℕ
-some_networks content all count = START.now ++ rows content all ++ table_end ++ left_out count
+some_networks content all count = START.now ++ rows content all ++ tag_html TableEnd ++ left_out count
 
 abbrev pub networks_text : Content → List NetworkRow → ℕ → List ℕ
 networks_text content all count =

@@ -10,10 +10,10 @@ ghost use Rattle.desk_page_networks.specs.Table.{GainsNetworks};
 use crate::cells::{push_alike_cell, push_parts_cell};
 use crate::rows::{NetworkRow, network_rows, size_of};
 use desk_page::{push_count_cell, push_network, push_plural};
-use desk_page_lists::{push_row_end, push_table_end};
 use desk_policy::Policy;
 use desk_report::FileSystemReport;
 use desk_text::Net;
+use page_html::{Tag, push_tag};
 use page_maps::written_in_site;
 use std::alloc::{AllocError, Global};
 
@@ -88,7 +88,7 @@ fn push_some_networks(
 {
     page.push_str(START)?;
     push_rows(alloc, policy, rows, page)?;
-    push_table_end(page)?;
+    push_tag(Tag::TableEnd, page)?;
     push_left_out(alloc, more, page)?;
     Ok(())
 }
@@ -123,7 +123,7 @@ fn push_row(
     push_count_cell(alloc, size_of(row.network), page)?;
     push_alike_cell(alloc, policy, row.alike.as_slice(), page)?;
     push_parts_cell(alloc, policy, row.parts.as_slice(), page)?;
-    push_row_end(page)?;
+    page.push_str("</tr>\n")?;
     Ok(())
 }
 

@@ -7,13 +7,13 @@ use Rattle.desk_page.specs.Numbers.{number}
 use Rattle.desk_page.specs.Pieces.{line_link, system_link}
 use Rattle.page_findings.specs.FindingWords.{finding_words}
 use Rattle.page_findings.specs.Badges.{level_mark}
-use Rattle.desk_page_lists.specs.Tables.{fold_end, fold_start, row_end, table_end, table_start}
+use Rattle.desk_page_summary.specs.Tables.{fold_end, fold_start, row_end, table_end, table_start}
 use Rattle.desk_page_summary.specs.Addresses.{part_cell}
 use Rattle.page_findings.specs.declared.finding_words.Finding.{Finding}
 use Rattle.desk_report.specs.Reasons.{is_first_level, level_of_all}
 use Rattle.desk_page_summary.specs.declared.findings.FindingRow.{FindingRow}
 use Rattle.desk_page_summary.specs.declared.findings.TheConstants.{RULES}
-use Rattle.desk_page_lists.specs.declared.tables.Table.TheVariants.{Findings, MoreFindings}
+use Rattle.desk_page_summary.specs.declared.tables.Table.TheVariants.{Findings, MoreFindings}
 
 -- a line is to be looked at first
 abbrev pub is_first_row : FindingRow → Bool

@@ -5,11 +5,11 @@ use Rattle.desk_exports.specs.declared.entry.Flavour.{Flavour}
 use Rattle.desk_page.specs.Terms.{flavours_words}
 use Rattle.desk_page.specs.TextRows.{count_cell}
 use Rattle.page_findings.specs.FindingWords.{flavour_names}
-use Rattle.desk_page_lists.specs.Mentions.{some_of}
-use Rattle.desk_page_lists.specs.Tables.{row_end, table_end, table_start}
+use Rattle.page_lists.specs.Mentions.{some_of}
+use Rattle.desk_page_summary.specs.Tables.{row_end, table_end, table_start}
 use Rattle.desk_page_summary.specs.declared.flavours.FlavoursRow.{FlavoursRow}
-use Rattle.desk_page_lists.specs.declared.mentions.Mention.{Mention}
-use Rattle.desk_page_lists.specs.declared.tables.Table.TheVariants.{Flavours}
+use Rattle.page_lists.specs.declared.mentions.Mention.{Mention}
+use Rattle.desk_page_summary.specs.declared.tables.Table.TheVariants.{Flavours}
 
 -- the beginning of a row: the flavours, as lines write them and in words
 abbrev pub names : List Flavour → List ℕ

@@ -5,3 +5,4 @@ pub mod FlavoursTable
 pub mod Header
 pub mod Overview
 pub mod Sections
+pub mod Tables

@@ -6,14 +6,14 @@ use Rattle.std.specs.Option.{option_copied}
 use Rattle.desk_core.specs.declared.head.Head.{Head}
 use Rattle.desk_page.specs.Numbers.{number}
 use Rattle.desk_page.specs.Pieces.{code, code_list, system_link, zero}
-use Rattle.desk_page_lists.specs.Tables.{row_end, table_end, table_start}
+use Rattle.desk_page_summary.specs.Tables.{row_end, table_end, table_start}
 use Rattle.page_findings.specs.Badges.{badge}
 use Rattle.desk_page_summary.specs.Addresses.{part_cell}
 use Rattle.desk_report.specs.declared.class.Class.{Class}
 use Rattle.desk_page_summary.specs.declared.overview.Reach.{Reach}
 use Rattle.desk_page_summary.specs.declared.overview.SystemRow.{SystemRow}
 use Rattle.desk_page_summary.specs.declared.overview.TheConstants.{LEGEND}
-use Rattle.desk_page_lists.specs.declared.tables.Table.TheVariants.{Overview}
+use Rattle.desk_page_summary.specs.declared.tables.Table.TheVariants.{Overview}
 
 -- the key of the maps
 unfoldable pub legend : List ℕ

@@ -5,10 +5,10 @@ ghost use Rattle.std.specs.String.{string_bytes};
 ghost use Rattle.desk_page_summary.specs.Findings as spec;
 
 use crate::addresses::push_part_cell;
-use desk_page::{push_escaped_line, push_line_link, push_number, push_plural, push_system_link};
-use desk_page_lists::{
+use crate::tables::{
     Table, push_fold_end, push_fold_start, push_row_end, push_table_end, push_table_start,
 };
+use desk_page::{push_escaped_line, push_line_link, push_number, push_plural, push_system_link};
 use desk_report::Level;
 use page_findings::{Finding, push_finding_words, push_level_mark};
 use std::alloc::{AllocError, Global};

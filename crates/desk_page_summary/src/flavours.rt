@@ -4,10 +4,11 @@ ghost use Rattle.std.specs.Prelude.{◌≡◌, ◌++◌, OnOk};
 ghost use Rattle.std.specs.String.{string_bytes};
 ghost use Rattle.desk_page_summary.specs.FlavoursTable as spec;
 
+use crate::tables::{Table, push_row_end, push_table_end, push_table_start};
 use desk_exports::Flavour;
 use desk_page::{push_count_cell, push_flavours};
-use desk_page_lists::{Mention, Table, push_row_end, push_some, push_table_end, push_table_start};
 use page_findings::push_flavour_names;
+use page_lists::{Mention, push_some};
 use std::alloc::{AllocError, Global};
 
 /// How many file systems a cell names.

@@ -13,6 +13,7 @@ pub mod flavours;
 pub mod header;
 pub mod overview;
 pub mod sections;
+mod tables;
 
 pub use figures::{Figures, push_figures};
 pub use findings::{FindingRow, push_counted_findings, push_findings};

@@ -6,9 +6,9 @@ ghost use Rattle.std.specs.String.{string_bytes};
 ghost use Rattle.desk_page_summary.specs.Overview as spec;
 
 use crate::addresses::push_part_cell;
+use crate::tables::{Table, push_row_end, push_table_end, push_table_start};
 use desk_core::Head;
 use desk_page::{push_code, push_code_list, push_number, push_system_link, push_zero};
-use desk_page_lists::{Table, push_row_end, push_table_end, push_table_start};
 use desk_report::Class;
 use desk_tables::FsId;
 use desk_text::Text;

@@ -4,16 +4,13 @@ use Rattle.desk_policy.specs.Policy.{Content}
 use Rattle.desk_policy.specs.declared.parsing.SiteTables.{SiteTables}
 use Rattle.desk_tables.specs.declared.filesystems.Mount.{Mount}
 use Rattle.desk_core.specs.Standing.{Standing}
-use Rattle.desk_page_lists.specs.Files as file_lists
-use Rattle.desk_page_lists.specs.Names as name_lists
-use Rattle.desk_page_lists.specs.Warnings as warning_lists
 use Rattle.desk_page_networks.specs.Table.{GainsNetworks, networks_text}
 use Rattle.desk_page_summary.specs.Sections.{section_end, section_start}
 use Rattle.desk_page_summary.specs.declared.sections.Section.{Section}
-use Rattle.desk_report_lists.specs.Files.{AddsFiles}
-use Rattle.desk_report_lists.specs.Hosts.{AddsHosts}
-use Rattle.desk_report_lists.specs.Netgroups.{AddsNetgroups}
-use Rattle.desk_report_lists.specs.Warnings.{AddsWarnings}
+use Rattle.page_lists.specs.Files.{AddsFiles, files}
+use Rattle.page_lists.specs.Hosts.{AddsHosts, hosts}
+use Rattle.page_lists.specs.Netgroups.{AddsNetgroups, netgroups}
+use Rattle.page_lists.specs.Warnings.{AddsWarnings, warnings}
 use Rattle.desk_report_summary.specs.Adding.{Adds}
 use Rattle.desk_report_page.specs.Page.{InSection}
 use Rattle.desk_report_page.specs.Pieces.{Gains, Just, Then, Told}
@@ -47,28 +44,28 @@ gains_networks content old new gains = record {
 
 pub gains_warnings : (content : Content) (old new : List ℕ) → AddsWarnings content old new → Gains (AddsWarnings content []) old new
 gains_warnings content old new adds = record {
-  text = warning_lists.warnings adds.rows;
+  text = warnings adds.rows;
   is = record { rows = adds.rows; are = adds.are; added = refl };
   added = adds.added;
 }
 
 pub gains_netgroups : (content : Content) (tables : SiteTables) (old new : List ℕ) → AddsNetgroups content tables old new → Gains (AddsNetgroups content tables []) old new
 gains_netgroups content tables old new adds = record {
-  text = name_lists.netgroups adds.rows;
+  text = netgroups adds.rows;
   is = record { rows = adds.rows; are = adds.are; added = refl };
   added = adds.added;
 }
 
 pub gains_hosts : (content : Content) (tables : SiteTables) (old new : List ℕ) → AddsHosts content tables old new → Gains (AddsHosts content tables []) old new
 gains_hosts content tables old new adds = record {
-  text = name_lists.hosts adds.rows;
+  text = hosts adds.rows;
   is = record { rows = adds.rows; are = adds.are; added = refl };
   added = adds.added;
 }
 
 pub gains_files : (table : List Mount) (standing : Standing) (old new : List ℕ) → AddsFiles table standing old new → Gains (AddsFiles table standing []) old new
 gains_files table standing old new adds = record {
-  text = file_lists.files adds.rows;
+  text = files adds.rows;
   is = record { rows = adds.rows; are = adds.are; added = refl };
   added = adds.added;
 }

@@ -10,8 +10,8 @@ use Rattle.desk_core.specs.Standing.{Standing, standing_in}
 use Rattle.desk_core.specs.declared.head.Head.{Head}
 use Rattle.desk_core.specs.declared.proposal.Proposal.{Proposal}
 use Rattle.desk_report.specs.Opening.{AreOpenings}
-use Rattle.desk_page_lists.specs.MakingAgain.{make_again}
-use Rattle.desk_page_lists.specs.Reading.{how_to_read}
+use Rattle.page_lists.specs.MakingAgain.{make_again}
+use Rattle.page_lists.specs.Reading.{how_to_read}
 use Rattle.page_maps.specs.Shapes.{shapes}
 use Rattle.desk_page_networks.specs.Table.{GainsNetworks}
 use Rattle.desk_page_summary.specs.Figures.{figures}
@@ -22,12 +22,12 @@ use Rattle.desk_page_summary.specs.declared.header.Header.{Header}
 use Rattle.desk_page_summary.specs.declared.sections.Section.{Section}
 use Rattle.desk_page_summary.specs.declared.sections.Section.TheVariants.{Each, Files, Names, Networks, Systems, Warnings}
 use Rattle.page_html.specs.Head.{page_head}
-use Rattle.desk_report_lists.specs.Amounts.{revisions_of}
-use Rattle.desk_report_lists.specs.Files.{AddsFiles}
-use Rattle.desk_report_lists.specs.Hosts.{AddsHosts}
-use Rattle.desk_report_lists.specs.Netgroups.{AddsNetgroups}
-use Rattle.desk_report_lists.specs.State.{IsStateDigest}
-use Rattle.desk_report_lists.specs.Warnings.{AddsWarnings}
+use Rattle.desk_report_summary.specs.Amounts.{revisions_of}
+use Rattle.page_lists.specs.Files.{AddsFiles}
+use Rattle.page_lists.specs.Hosts.{AddsHosts}
+use Rattle.page_lists.specs.Netgroups.{AddsNetgroups}
+use Rattle.desk_report_summary.specs.State.{IsStateDigest}
+use Rattle.page_lists.specs.Warnings.{AddsWarnings}
 use Rattle.desk_report_summary.specs.FindingRows.{AreFindingRows, findings_text}
 use Rattle.desk_report_summary.specs.FlavoursRows.{AreFlavoursRows}
 use Rattle.desk_report_summary.specs.KeyFigures.{AreKeyFigures}

@@ -3,12 +3,12 @@
 ghost use Rattle.std.specs.Prelude.{◌≤◌, [], OnOk, length};
 ghost use Rattle.std.specs.String.{string_bytes};
 ghost use Rattle.desk_core.specs.Standing.{standing_in};
-ghost use Rattle.desk_page_lists.specs.Reading.{how_to_read};
+ghost use Rattle.page_lists.specs.Reading.{how_to_read};
 ghost use Rattle.desk_page_networks.specs.Table.{GainsNetworks};
 ghost use Rattle.desk_page_summary.specs.Header.{header};
 ghost use Rattle.desk_page_summary.specs.Sections.{footer};
 ghost use Rattle.desk_page_summary.specs.declared.sections.Section.TheVariants.{Files, Names, Networks, Systems, Warnings};
-ghost use Rattle.desk_report_lists.specs.Warnings.{AddsWarnings};
+ghost use Rattle.page_lists.specs.Warnings.{AddsWarnings};
 ghost use Rattle.desk_report_summary.specs.SystemRows.{AreOverviewRows, overview_text};
 ghost use Rattle.desk_report_page.specs.Page as spec;
 ghost use Rattle.desk_report_page.specs.Page.{InSection, IsHeader};
@@ -16,23 +16,23 @@ ghost use Rattle.desk_report_page.specs.Pieces.{Gains, Just, Then, Told};
 ghost use Rattle.desk_report_page.specs.PrivateSections.{CanBeWritten, parts_found};
 
 use desk_core::{Head, Proposal};
-use desk_page_lists::{push_how_to_read, push_make_again};
 use desk_page_networks::push_networks;
 use desk_page_summary::{
     Header, Section, push_footer, push_header, push_section_end, push_section_start,
 };
 use desk_policy::{Policy, SiteTables};
 use desk_report::{FileSystemReport, LineReasons};
-use desk_report_lists::{
-    index_of_names, push_files_of, push_hosts_of, push_netgroups_of, push_warnings_of,
-    revisions_and_files, state_digest,
-};
 use desk_report_summary::{
     SystemsData, push_figures_of, push_findings_of, push_flavours_of, push_overview_of,
+    revisions_and_files, state_digest,
 };
 use desk_text::Sequence;
 use page_findings::{Deciding, SiteLine};
 use page_html::push_page_head;
+use page_lists::{
+    index_of_names, push_files_of, push_hosts_of, push_how_to_read, push_make_again,
+    push_netgroups_of, push_warnings_of,
+};
 use page_maps::push_shapes;
 use std::alloc::{AllocError, Global};
 

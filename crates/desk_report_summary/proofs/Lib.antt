@@ -3,3 +3,4 @@ pub mod Rowed
 pub mod Standing
 pub mod Looking
 pub mod Deciders
+mod Revisions

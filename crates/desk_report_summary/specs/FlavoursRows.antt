@@ -4,8 +4,8 @@ use Rattle.desk_exports.specs.declared.entry.Flavour.{Flavour}
 use Rattle.desk_tables.specs.declared.filesystems.Mount.{Mount}
 use Rattle.page_findings.specs.Flavours.{AreFlavoursInUse, UseValue}
 use Rattle.page_findings.specs.Lines.{LineValue}
-use Rattle.desk_page_lists.specs.declared.mentions.Mention.{Mention}
-use Rattle.desk_page_lists.specs.declared.mentions.Mention.TheVariants.{Group, Host, Line, System}
+use Rattle.page_lists.specs.declared.mentions.Mention.{Mention}
+use Rattle.page_lists.specs.declared.mentions.Mention.TheVariants.{Group, Host, Line, System}
 use Rattle.desk_page_summary.specs.declared.flavours.FlavoursRow.{FlavoursRow}
 use Rattle.desk_report_summary.specs.Files.{name_of}
 

@@ -8,3 +8,5 @@ pub mod SystemRows
 pub mod SiteData
 pub mod SiteFinding
 pub mod Laws
+pub mod Amounts
+pub mod State

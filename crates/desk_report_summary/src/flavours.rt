@@ -12,12 +12,12 @@ ghost use Rattle.desk_report_summary.specs.FlavoursRows.{AreFlavoursRows, all_me
 
 use crate::files::name_of;
 use desk_exports::Flavour;
-use desk_page_lists::Mention;
 use desk_page_summary::{FlavoursRow, push_flavours_table};
 use desk_policy::Policy;
 use desk_tables::{FileSystems, FsId};
 use desk_text::Sequence;
 use page_findings::{FlavourUse, SiteLine, flavours_in_use};
+use page_lists::Mention;
 use std::alloc::{AllocError, Global};
 
 /// Adds the flavours of the lines that grant something, given the lines of all file systems.

@@ -1,4 +1,4 @@
-//! The summary of a report's page, and what the page says of each line that stands out.
+//! The summary of a report's page, with the digest of the site's state, and what the page says of each line that stands out.
 //!
 //! ```text
 //! let lines = lines_of_site(alloc, policy, systems.as_slice(), reasons.as_slice())?;
@@ -8,6 +8,7 @@
 //! ```
 #![tactic(auto)]
 
+pub mod amounts;
 pub mod figures;
 mod files;
 pub mod findings;
@@ -16,10 +17,13 @@ pub mod laws;
 pub mod overview;
 mod reach;
 pub mod site_finding;
+pub mod state;
 
+pub use amounts::revisions_and_files;
 pub use figures::push_figures_of;
 pub use findings::push_findings_of;
 pub use flavours::push_flavours_of;
 pub use laws::named_lines_decide;
 pub use overview::{SystemsData, push_overview_of};
 pub use site_finding::{SiteFinding, site_findings};
+pub use state::state_digest;

@@ -1,6 +1,7 @@
 use Rattle.std.specs.String.{string_bytes}
 use Rattle.desk_page.proofs.Gaining.{four_pieces}
-use Rattle.desk_page_lists.specs.Tables.{table_end}
+use Rattle.page_html.specs.Blocks.{tag_html}
+use Rattle.page_html.specs.declared.blocks.Tag.TheVariants.{TableEnd}
 use Rattle.desk_page_networks.specs.Table.{left_out, rows}
 use Rattle.desk_page_networks.specs.declared.table.TheConstants.{START}
 use Rattle.desk_page_networks.proofs.table.push_some_networks.Goals as goal
@@ -10,8 +11,8 @@ returns c =
     let s0 = string_bytes c.args.page.now in
     let s1 = string_bytes c.push_str.new.self in
     let s2 = string_bytes c.push_rows.new.page in
-    let s3 = string_bytes c.push_table_end.new.page in
+    let s3 = string_bytes c.push_tag.new.page in
     let s4 = string_bytes c.push_left_out.new.page in
     four_pieces s0 s1 s2 s3 s4
-    START.now (rows c.args.policy.now c.args.rows.now) table_end (left_out c.args.more)
-    c.in_ok-push_str.ensures.bytes c.in_ok-push_rows.ensures c.in_ok-push_table_end.ensures c.in_ok-push_left_out.ensures
+    START.now (rows c.args.policy.now c.args.rows.now) (tag_html TableEnd) (left_out c.args.more)
+    c.in_ok-push_str.ensures.bytes c.in_ok-push_rows.ensures c.in_ok-push_tag.ensures c.in_ok-push_left_out.ensures

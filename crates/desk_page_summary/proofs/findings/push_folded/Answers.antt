@@ -2,8 +2,8 @@ use Rattle.std.proofs.Common.{codes}
 use Rattle.std.specs.Prelude.{length}
 use Rattle.std.specs.String.{string_bytes}
 use Rattle.desk_page_summary.specs.Findings.{rows}
-use Rattle.desk_page_lists.specs.Tables.{fold_end, fold_start, table_end, table_start}
-use Rattle.desk_page_lists.specs.declared.tables.Table.TheVariants.{MoreFindings}
+use Rattle.desk_page_summary.specs.Tables.{fold_end, fold_start, table_end, table_start}
+use Rattle.desk_page_summary.specs.declared.tables.Table.TheVariants.{MoreFindings}
 use Rattle.desk_page.proofs.Gaining.{five_pieces}
 use Rattle.desk_page_summary.proofs.findings.push_folded.Goals as goal
 

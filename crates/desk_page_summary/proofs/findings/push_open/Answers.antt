@@ -1,7 +1,7 @@
 use Rattle.std.specs.String.{string_bytes}
 use Rattle.desk_page_summary.specs.Findings.{rows}
-use Rattle.desk_page_lists.specs.Tables.{table_end, table_start}
-use Rattle.desk_page_lists.specs.declared.tables.Table.TheVariants.{Findings}
+use Rattle.desk_page_summary.specs.Tables.{table_end, table_start}
+use Rattle.desk_page_summary.specs.declared.tables.Table.TheVariants.{Findings}
 use Rattle.desk_page.proofs.Gaining.{three_pieces}
 use Rattle.desk_page_summary.proofs.findings.push_open.Goals as goal
 

@@ -1,6 +1,6 @@
 use Rattle.std.specs.String.{string_bytes}
 use Rattle.desk_page_summary.specs.Findings.{level_head, what_cell, where_cell}
-use Rattle.desk_page_lists.specs.Tables.{row_end}
+use Rattle.desk_page_summary.specs.Tables.{row_end}
 use Rattle.desk_page_summary.specs.Addresses.{part_cell}
 use Rattle.desk_page.proofs.Gaining.{five_pieces}
 use Rattle.desk_page_summary.proofs.findings.push_row.Goals as goal

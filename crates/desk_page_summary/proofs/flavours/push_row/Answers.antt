@@ -1,7 +1,7 @@
 use Rattle.std.specs.String.{string_bytes}
 use Rattle.desk_page.specs.TextRows.{count_cell}
 use Rattle.desk_page_summary.specs.FlavoursTable.{names, systems_cell}
-use Rattle.desk_page_lists.specs.Tables.{row_end}
+use Rattle.desk_page_summary.specs.Tables.{row_end}
 use Rattle.desk_page.proofs.Gaining.{five_pieces}
 use Rattle.desk_page_summary.proofs.flavours.push_row.Goals as goal
 

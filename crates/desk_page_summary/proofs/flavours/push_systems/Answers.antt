@@ -1,6 +1,6 @@
 use Rattle.std.proofs.Common.{codes}
 use Rattle.std.specs.String.{string_bytes}
-use Rattle.desk_page_lists.specs.Mentions.{some_of}
+use Rattle.page_lists.specs.Mentions.{some_of}
 use Rattle.desk_page.proofs.Gaining.{three_pieces}
 use Rattle.desk_page_summary.proofs.flavours.push_systems.Goals as goal
 

@@ -1,7 +1,7 @@
 use Rattle.std.specs.String.{string_bytes}
 use Rattle.desk_page_summary.specs.Overview.{any_row, legend, rows}
-use Rattle.desk_page_lists.specs.Tables.{table_end, table_start}
-use Rattle.desk_page_lists.specs.declared.tables.Table.TheVariants.{Overview}
+use Rattle.desk_page_summary.specs.Tables.{table_end, table_start}
+use Rattle.desk_page_summary.specs.declared.tables.Table.TheVariants.{Overview}
 use Rattle.desk_page.proofs.Gaining.{five_pieces}
 use Rattle.desk_page_summary.proofs.overview.push_overview.Goals as goal
 

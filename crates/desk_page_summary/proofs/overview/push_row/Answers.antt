@@ -1,7 +1,7 @@
 use Rattle.std.specs.Option.{option_copied}
 use Rattle.std.specs.String.{string_bytes}
 use Rattle.desk_page_summary.specs.Overview.{keepers_cell, newest_cell, standing_out_cell, system_cells}
-use Rattle.desk_page_lists.specs.Tables.{row_end}
+use Rattle.desk_page_summary.specs.Tables.{row_end}
 use Rattle.desk_page.proofs.Gaining.{five_pieces}
 use Rattle.desk_page_summary.proofs.overview.push_row.Goals as goal
 

@@ -1,6 +1,6 @@
 use Rattle.std.specs.String.{string_bytes}
 use Rattle.std.proofs.lemmas.Result.{on_ok_weaker}
-use Rattle.desk_page_lists.specs.Reading.{how_to_read}
+use Rattle.page_lists.specs.Reading.{how_to_read}
 use Rattle.desk_page_summary.specs.Sections.{footer}
 use Rattle.desk_report_page.proofs.Pieces.{gains_just, gains_then}
 use Rattle.desk_report_page.proofs.sections.push_end.Goals as goal

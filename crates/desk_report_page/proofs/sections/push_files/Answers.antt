@@ -2,8 +2,8 @@ use Rattle.std.proofs.Common.{subst}
 use Rattle.std.specs.String.{string_bytes}
 use Rattle.std.proofs.lemmas.Result.{on_ok_weaker}
 use Rattle.desk_core.specs.Standing.{standing_in}
-use Rattle.desk_page_lists.specs.MakingAgain.{make_again}
-use Rattle.desk_report_lists.specs.Files.{AddsFiles}
+use Rattle.page_lists.specs.MakingAgain.{make_again}
+use Rattle.page_lists.specs.Files.{AddsFiles}
 use Rattle.desk_report_page.proofs.Pieces.{gains_files, gains_just, gains_then}
 use Rattle.desk_report_page.proofs.sections.push_files.Goals as goal
 

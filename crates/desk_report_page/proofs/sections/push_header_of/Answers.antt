@@ -3,7 +3,7 @@ use Rattle.std.proofs.lemmas.Result.{on_ok_weaker}
 use Rattle.desk_core.specs.Standing.{standing_in}
 use Rattle.desk_page_summary.specs.Header.{header}
 use Rattle.desk_page_summary.specs.declared.header.Header.{Header}
-use Rattle.desk_report_lists.specs.State.{IsStateDigest}
+use Rattle.desk_report_summary.specs.State.{IsStateDigest}
 use Rattle.desk_report_page.proofs.sections.push_header_of.Goals as goal
 
 pub returns : goal.returns

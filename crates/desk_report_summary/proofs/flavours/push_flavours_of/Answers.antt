@@ -5,7 +5,7 @@ use Rattle.desk_tables.specs.declared.filesystems.Mount.{Mount}
 use Rattle.page_findings.proofs.Mapped.{map_twice}
 use Rattle.page_findings.specs.Flavours.{use_value}
 use Rattle.page_findings.specs.declared.flavours.FlavourUse.{FlavourUse}
-use Rattle.desk_page_lists.specs.declared.mentions.Mention.{Mention}
+use Rattle.page_lists.specs.declared.mentions.Mention.{Mention}
 use Rattle.desk_page_summary.specs.FlavoursTable.{flavours_table}
 use Rattle.desk_page_summary.specs.declared.flavours.FlavoursRow.{FlavoursRow}
 use Rattle.desk_report_summary.specs.FlavoursRows.{all_mentioned, row_of, row_value, systems_of}

@@ -1,3 +1,0 @@
-mod Gathering
-mod Quoted
-mod Quoting

@@ -1,9 +1,0 @@
-pub mod MakingAgain
-pub mod Files
-pub mod Laws
-pub mod Mentions
-pub mod Names
-pub mod Reading
-pub mod Shell
-pub mod Tables
-pub mod Warnings

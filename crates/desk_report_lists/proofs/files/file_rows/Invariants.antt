@@ -1,8 +1,0 @@
--- The rows of the files so far.
-use Rattle.std.proofs.Common.{◌≡◌, map, take}
-use Rattle.desk_report_lists.specs.Files.{row_value}
-use Rattle.desk_report_lists.specs.PrivateFiles.{digested_row}
-use Rattle.desk_report_lists.proofs.files.file_rows.Given as goal
-
-abbrev pub invariant-loop-file : goal.invariant-loop-file
-invariant-loop-file l = map row_value l.rows.items ≡ map digested_row (take l.file-index l.files)

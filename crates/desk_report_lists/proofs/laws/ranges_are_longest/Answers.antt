@@ -1,5 +1,0 @@
-use Rattle.desk_report_lists.proofs.Longest.{longest}
-use Rattle.desk_report_lists.proofs.laws.ranges_are_longest.Goals as goal
-
-pub returns : goal.returns
-returns c = longest

@@ -1,8 +1,0 @@
--- The rows of the netgroups so far.
-use Rattle.std.proofs.Common.{◌≡◌, map, take}
-use Rattle.desk_report_lists.specs.Netgroups.{row_value}
-use Rattle.desk_report_lists.specs.PrivateNetgroups.{facts_row}
-use Rattle.desk_report_lists.proofs.netgroups.group_rows.Given as goal
-
-abbrev pub invariant-loop-group : goal.invariant-loop-group
-invariant-loop-group l = map row_value l.rows.items ≡ map facts_row (take l.group-index l.groups)

@@ -1,7 +1,0 @@
--- The rows of the warnings so far.
-use Rattle.std.proofs.Common.{◌≡◌, map, take}
-use Rattle.desk_report_lists.specs.Warnings.{row_of, row_value}
-use Rattle.desk_report_lists.proofs.warnings.warning_rows.Given as goal
-
-abbrev pub invariant-loop-warning : goal.invariant-loop-warning
-invariant-loop-warning l = map row_value l.rows.items ≡ map (row_of l.filesystems) (take l.warning-index l.warnings)

@@ -1,0 +1,9 @@
+mod Counting
+mod Gathering
+mod HostNames
+pub mod Kept
+pub mod Keyed
+pub mod Longest
+pub mod Mapped
+mod Quoted
+mod Quoting

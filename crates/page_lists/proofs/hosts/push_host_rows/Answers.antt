@@ -1,0 +1,11 @@
+use Rattle.std.specs.String.{string_bytes}
+use Rattle.desk_page.proofs.Gathered.{writes_values}
+use Rattle.page_html.specs.Tables.{row_html}
+use Rattle.page_lists.specs.Hosts.{host, host_frame}
+use Rattle.page_lists.proofs.hosts.push_host_rows.Goals as goal
+
+pub loop-row-preserved : goal.loop-row-preserved
+loop-row-preserved c =
+    writes_values host c.args.rows.now c.loop-row.row-index _ (row_html host_frame) (string_bytes c.args.page.now) (string_bytes c.loop-row.page)
+    (string_bytes c.push_host.new.page) c.loop-row-test.true c.loop-row.invariant
+    c.in_ok-push_host.ensures

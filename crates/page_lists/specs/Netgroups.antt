@@ -1,0 +1,104 @@
+-- Netgroups. (this project's own, over netgroup(5))
+use Rattle.std.specs.Prelude.{◌≡◌, ℕ, ◌==◌, List, [], ◌∷◌, ◌++◌, Option, Some, None, codes, length, map, true, if◌then◌else◌}
+use Rattle.desk_netgroup.specs.GroupLine.{group_named}
+use Rattle.desk_netgroup.specs.Walk.{hosts_in_order}
+use Rattle.desk_netgroup.specs.declared.group_line.GroupLine.{GroupLine}
+use Rattle.desk_netgroup.specs.declared.group_line.Member.{Member}
+use Rattle.desk_netgroup.specs.declared.group_line.Member.TheVariants.{Group, Host}
+use Rattle.desk_page.specs.Ranges.{ends_of}
+use Rattle.desk_policy.specs.Policy.{Content}
+use Rattle.desk_policy.specs.declared.parsing.SiteTables.{SiteTables}
+use Rattle.page_html.specs.Blocks.{element_html, tag_html}
+use Rattle.page_html.specs.Items.{Item, Number, Word, Words, Own, Code}
+use Rattle.page_html.specs.Tables.{Count, Frame, Name, Plain, rows_html, table_start}
+use Rattle.page_html.specs.Titles.{Said}
+use Rattle.page_html.specs.declared.blocks.Element.TheVariants.{Paragraph}
+use Rattle.page_html.specs.declared.blocks.Tag.TheVariants.{TableEnd}
+use Rattle.page_lists.specs.Mentions.{some_or}
+use Rattle.page_lists.specs.Tables.{long_end, long_start, number}
+use Rattle.page_lists.specs.Uses.{MentionValue, NameValue, OfGroup, OfHost, facts_of, mention_value, stands_for, written_by}
+use Rattle.page_lists.specs.declared.mentions.Mention.{Mention}
+use Rattle.page_lists.specs.declared.netgroups.NetgroupRow.{NetgroupRow}
+
+-- the members of a netgroup: 8 at the most, and how many more
+abbrev pub members_of : List Mention → List (Item (List ℕ))
+members_of members = some_or 8 (Own (Words (codes "-"))) members
+
+-- the table of netgroups
+abbrev pub netgroup_frame : Frame
+netgroup_frame = record {
+  class = codes "n";
+  is_titled = true;
+  columns =
+      Name (codes "Name") ∷ Count (codes "Line") ∷ Plain (codes "Hosts and groups in it") ∷ Count (codes "Host names")
+      ∷ Count (codes "Addresses") ∷ Plain (codes "Stands for") ∷ Plain (codes "Written by") ∷ [];
+}
+
+-- a netgroup: its name, its line and its members; how many names of hosts are in it, and for how many addresses, and which, it stands;
+-- and the lines that write it
+abbrev pub netgroup : NetgroupRow → List (List (Item (List ℕ)))
+netgroup row =
+    (Code row.name.now ∷ []) ∷ (number row.line ∷ []) ∷ members_of row.members.now ∷ (Own (Number row.hosts) ∷ [])
+    ∷ (Own (Number row.addresses) ∷ []) ∷ (stands_for row.ranges.now ∷ []) ∷ written_by row.uses.now ∷ []
+
+-- netgroups, folded if there are more than 24
+abbrev pub some_netgroups : List NetgroupRow → List ℕ
+some_netgroups rows =
+    long_start 24 (length rows) (codes "netgroup") (codes "netgroups") ++ table_start netgroup_frame (Said (codes "Netgroups") ∷ [])
+    ++ rows_html netgroup_frame (map netgroup rows) ++ tag_html TableEnd ++ long_end 24 (length rows)
+
+-- the netgroups, if there are any
+abbrev pub no_netgroup : List ℕ
+no_netgroup = element_html Paragraph (Own (Words (codes "The table ")) ∷ Own (Word (codes "netgroup")) ∷ Own (Words (codes " has none.")) ∷ [])
+
+abbrev pub netgroups : List NetgroupRow → List ℕ
+netgroups rows = if length rows == 0 then no_netgroup else some_netgroups rows
+
+-- a row of the table by value: a netgroup with its line, its members, how many names of hosts are in it, and what is told of its name
+pub record RowValue : Type 0 where
+  pub name : List ℕ
+  pub line : ℕ
+  pub members : List MentionValue
+  pub hosts : ℕ
+  pub facts : NameValue
+
+abbrev pub row_value : NetgroupRow → RowValue
+row_value row = record {
+  name = row.name.now;
+  line = row.line;
+  members = map mention_value row.members.now;
+  hosts = row.hosts;
+  facts = record { addresses = row.addresses; ranges = map ends_of row.ranges.now; uses = map mention_value row.uses.now };
+}
+
+abbrev pub member_value : Member → MentionValue
+member_value (Host name) = OfHost name
+member_value (Group name) = OfGroup name
+
+-- how many names of hosts are in a netgroup, with those of its member groups at any depth, each once
+abbrev pub hosts_by : Option GroupLine → List GroupLine → List ℕ → ℕ
+hosts_by None netgroups name = 0
+hosts_by (Some line) netgroups name = length (hosts_in_order netgroups name)
+
+abbrev pub hosts_in : List GroupLine → List ℕ → ℕ
+hosts_in netgroups name = hosts_by (group_named netgroups name) netgroups name
+
+-- what is told of a netgroup
+abbrev pub row_of : Content → SiteTables → GroupLine → RowValue
+row_of content tables group = record {
+  name = group.name;
+  line = group.line;
+  members = map member_value group.members;
+  hosts = hosts_in tables.netgroups group.name;
+  facts = facts_of content tables group.name;
+}
+
+-- These are the rows of the netgroups, in the order of their lines.
+abbrev pub AreNetgroupRows : Content → SiteTables → List NetgroupRow → Type 0
+AreNetgroupRows content tables rows = map row_value rows ≡ map (row_of content tables) tables.netgroups
+
+-- The table of these rows stands behind the text before it.
+pub record AddsNetgroups (content : Content) (tables : SiteTables) (old new : List ℕ) : Type 0 where
+  pub rows : List NetgroupRow
+  pub are : AreNetgroupRows content tables rows
+  pub added : new ≡ old ++ netgroups rows

@@ -1,0 +1,311 @@
+//! The files of a site, and their newest revisions.
+
+ghost use Rattle.std.specs.Prelude.{◌≡◌, ◌++◌, IfOk, OnOk, map};
+ghost use Rattle.std.specs.Option.{option_copied, option_map};
+ghost use Rattle.std.specs.String.{string_bytes};
+ghost use Rattle.desk_core.specs.Listing.{file_of};
+ghost use Rattle.desk_core.specs.Standing.{standing_in};
+ghost use Rattle.page_html.specs.Parts.{item_of};
+ghost use Rattle.page_html.specs.Tables.{row_html, rows_html};
+ghost use Rattle.page_lists.specs.Files as spec;
+ghost use Rattle.page_lists.specs.PrivateFiles.{digested_row};
+
+use crate::digests::text_digest;
+use crate::tables::{number_of, push_long_end, push_long_start};
+use desk_core::{Head, HeldFile, Proposal, held_files, is_known};
+use desk_policy::SiteFile;
+use desk_tables::FileSystems;
+use desk_text::Text;
+use page_html::{Column, Frame, Part, Tag, Title, push_row, push_table_start, push_tag};
+use std::alloc::{AllocError, Global};
+
+/// More rows than these are folded.
+const OPEN: u64 = 40;
+
+/// The table.
+const FILES: Frame = Frame {
+    class: "h",
+    is_titled: true,
+    columns: &[
+        Column::Name("File"),
+        Column::Count("Revision"),
+        Column::Plain("Author"),
+        Column::Plain("Approver"),
+        Column::Plain("Profile"),
+        Column::Count("Bytes"),
+        Column::Plain("SHA-256 of the text"),
+        Column::Plain("Remark"),
+    ],
+};
+
+/// A file: its newest revision, if it has one, with the digest of its text; who proposes another text, if somebody does; and whether it is
+/// the exports file of no file system that is listed.
+#[derive(Clone, Copy)]
+pub struct FileRow<'a> {
+    pub file: &'a str,
+    pub head: Option<&'a Head>,
+    pub digest: &'a str,
+    pub proposer: Option<&'a Text>,
+    pub is_unlisted: bool,
+}
+
+/// A file, with the digest of the text of its newest revision, and whether it is the exports file of no listed file system.
+#[derive(Drop)]
+struct DigestedFile<'a> {
+    file: HeldFile<'a>,
+    digest: String,
+    is_unlisted: bool,
+}
+
+/// Adds the table of the files that have one of these newest revisions or proposals, where these file systems are listed.
+pub fn push_files_of(
+    alloc: Global,
+    filesystems: &FileSystems,
+    heads: &[Head],
+    proposals: &[Proposal],
+    page: &mut String,
+) -> Result<(), AllocError>
+    ensures { OnOk result (spec.AddsFiles filesystems.now (standing_in heads.now proposals.now) (string_bytes page.old) (string_bytes page.new)) }
+{
+    let files = held_files(alloc, heads, proposals)?;
+    let digested = digested_files(alloc, filesystems, files.as_slice())?;
+    let rows = file_rows(alloc, digested.as_slice())?;
+    push_files(alloc, rows.as_slice(), page)
+}
+
+/// Makes the digests of the texts of files.
+fn digested_files<'a>(
+    alloc: Global,
+    filesystems: &FileSystems,
+    files: &[HeldFile<'a>],
+) -> Result<Vec<DigestedFile<'a>>, AllocError>
+    ensures { IfOk result (λ digested. map digested_row digested.items ≡ map (spec.row_of filesystems.now) (map file_of files.now)) }
+{
+    let mut digested = Vec::new(alloc);
+    for file in files {
+        digested.push(digested_file(alloc, filesystems, *file)?)?;
+    }
+    Ok(digested)
+}
+
+/// Makes the digest of the text of a file.
+fn digested_file<'a>(
+    alloc: Global,
+    filesystems: &FileSystems,
+    file: HeldFile<'a>,
+) -> Result<DigestedFile<'a>, AllocError>
+    ensures { IfOk result (λ digested. digested_row digested ≡ spec.row_of filesystems.now (file_of file.entry)) }
+{
+    let digest = newest_digest(alloc, file.newest)?;
+    let is_unlisted = !is_known(filesystems, file.name());
+    Ok(DigestedFile {
+        file,
+        digest,
+        is_unlisted,
+    })
+}
+
+/// Makes the digest of the text of a revision, and an empty text if there is none.
+fn newest_digest(alloc: Global, newest: Option<&Head>) -> Result<String, AllocError>
+    ensures { IfOk result (λ digest. string_bytes digest ≡ spec.newest_digest (option_copied newest.entry)) }
+{
+    match newest {
+        None => Ok(String::new(alloc)),
+        Some(head) => text_digest(alloc, head.body.as_str()),
+    }
+}
+
+/// Makes the rows of files.
+fn file_rows<'b>(
+    alloc: Global,
+    files: &'b [DigestedFile<'_>],
+) -> Result<Vec<FileRow<'b>>, AllocError>
+    ensures { IfOk result (λ rows. map spec.row_value rows.items ≡ map digested_row files.now) }
+{
+    let mut rows = Vec::new(alloc);
+    for file in files {
+        rows.push(file_row(file))?;
+    }
+    Ok(rows)
+}
+
+/// Makes the row of a file.
+fn file_row<'b>(digested: &'b DigestedFile<'_>) -> FileRow<'b>
+    ensures { spec.row_value result ≡ digested_row digested.now }
+{
+    FileRow {
+        file: digested.file.name(),
+        head: digested.file.newest,
+        digest: digested.digest.as_str(),
+        proposer: proposer_of(digested.file.proposal),
+        is_unlisted: digested.is_unlisted,
+    }
+}
+
+/// Lends the author of a proposal.
+fn proposer_of(proposal: Option<&Proposal>) -> Option<&Text>
+    ensures { option_copied result ≡ option_map (λ one. one.author) (option_copied proposal.entry) }
+{
+    match proposal {
+        None => None,
+        Some(proposal) => Some(&proposal.author),
+    }
+}
+
+/// Adds the files, in the order given.
+pub fn push_files(alloc: Global, rows: &[FileRow<'_>], page: &mut String) -> Result<(), AllocError>
+    ensures { OnOk result (string_bytes page.new ≡ string_bytes page.old ++ spec.files rows.now) }
+{
+    let count = rows.len() as u64;
+    push_long_start(alloc, OPEN, count, "file", "files", page)?;
+    push_table_start(
+        alloc,
+        &FILES,
+        &[Title::Said("Files and their newest revisions")],
+        page,
+    )?;
+    push_rows(alloc, rows, page)?;
+    push_tag(Tag::TableEnd, page)?;
+    push_long_end(OPEN, count, page)?;
+    Ok(())
+}
+
+/// Adds rows.
+#[tactic(auto, unfolding(page_html::specs::Tables::rows_html))]
+fn push_rows(alloc: Global, rows: &[FileRow<'_>], page: &mut String) -> Result<(), AllocError>
+    ensures { OnOk result (string_bytes page.new ≡ string_bytes page.old ++ rows_html spec.frame (map spec.cells rows.now)) }
+{
+    for row in rows {
+        push_file(alloc, row, page)?;
+    }
+    Ok(())
+}
+
+/// Adds a row.
+fn push_file(alloc: Global, row: &FileRow<'_>, page: &mut String) -> Result<(), AllocError>
+    ensures { OnOk result (string_bytes page.new ≡ string_bytes page.old ++ row_html spec.frame (spec.cells row.now)) }
+{
+    match row.head {
+        None => push_unwritten(alloc, row, page),
+        Some(head) => push_written(alloc, row, head, page),
+    }
+}
+
+/// Adds the row of a file that has no revision.
+fn push_unwritten(alloc: Global, row: &FileRow<'_>, page: &mut String) -> Result<(), AllocError>
+    ensures { OnOk result (string_bytes page.new ≡ string_bytes page.old ++ row_html spec.frame (spec.unwritten row.now)) }
+{
+    let remark = remark_of(row);
+    let cells: [&[Part<'_>]; 8] = [
+        &[Part::Code(row.file)],
+        &[dash()],
+        &[dash()],
+        &[dash()],
+        &[dash()],
+        &[dash()],
+        &[dash()],
+        &remark,
+    ];
+    push_row(alloc, &FILES, &cells, page)
+}
+
+/// Returns what stands for nothing.
+fn dash<'a>() -> Part<'a>
+    ensures { item_of result ≡ spec.dash }
+{
+    Part::Words("-")
+}
+
+/// Adds the row of a file that has one.
+fn push_written<'a>(
+    alloc: Global,
+    row: &FileRow<'a>,
+    head: &'a Head,
+    page: &mut String,
+) -> Result<(), AllocError>
+    ensures { OnOk result (string_bytes page.new ≡ string_bytes page.old ++ row_html spec.frame (spec.written row.now head.now)) }
+{
+    let remark = remark_of(row);
+    let cells: [&[Part<'_>]; 8] = [
+        &[Part::Code(row.file)],
+        &[number_of(head.rev)],
+        &[author_of(head)],
+        &[approver_of(head)],
+        &[profile_of(head)],
+        &[size_of(head)],
+        &[Part::Digest(row.digest)],
+        &remark,
+    ];
+    push_row(alloc, &FILES, &cells, page)
+}
+
+/// Returns who wrote a revision.
+fn author_of<'a>(head: &'a Head) -> Part<'a>
+    ensures { item_of result ≡ spec.author head.now }
+{
+    Part::Code(head.author.as_str())
+}
+
+/// Returns who approved a revision, if somebody did.
+fn approver_of<'a>(head: &'a Head) -> Part<'a>
+    ensures { item_of result ≡ spec.approver head.now.approver }
+{
+    match &head.approver {
+        None => dash(),
+        Some(name) => Part::Code(name.as_str()),
+    }
+}
+
+/// Returns the profile of an exports file.
+fn profile_of<'a>(head: &'a Head) -> Part<'a>
+    ensures { item_of result ≡ spec.profile head.now }
+{
+    if SiteFile::is_name(head.file.as_str()) {
+        dash()
+    } else {
+        Part::Digits(head.profile.number())
+    }
+}
+
+/// Returns how many bytes the text of a revision has.
+fn size_of<'a>(head: &'a Head) -> Part<'a>
+    ensures { item_of result ≡ spec.size head.now }
+{
+    Part::Number(head.body.as_str().len() as u64)
+}
+
+/// Returns what is remarkable of a file.
+fn remark_of<'a>(row: &FileRow<'a>) -> [Part<'a>; 3]
+    ensures { map item_of result ≡ spec.remark (option_copied row.now.proposer) row.now.is_unlisted }
+{
+    match row.proposer {
+        None => [
+            unlisted_or(row.is_unlisted, "unlisted", "-"),
+            Part::Nothing,
+            Part::Nothing,
+        ],
+        Some(name) => proposed_by(name, row.is_unlisted),
+    }
+}
+
+/// Returns who proposes another text.
+fn proposed_by<'a>(name: &'a Text, is_unlisted: bool) -> [Part<'a>; 3]
+    ensures { map item_of result ≡ spec.proposed_by name.now is_unlisted }
+{
+    [
+        Part::Words("proposal by "),
+        Part::Code(name.as_str()),
+        unlisted_or(is_unlisted, ", unlisted", ""),
+    ]
+}
+
+/// Returns that a file is not listed, if it is not, or other words.
+fn unlisted_or<'a>(is_unlisted: bool, unlisted: &'static str, other: &'static str) -> Part<'a>
+    ensures { item_of result ≡ spec.unlisted_or is_unlisted unlisted.now other.now }
+{
+    if is_unlisted {
+        Part::Words(unlisted)
+    } else {
+        Part::Words(other)
+    }
+}
