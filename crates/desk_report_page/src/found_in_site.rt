@@ -11,12 +11,12 @@ ghost use Rattle.desk_report.specs.Systems.{AreSystems, system_value};
 ghost use Rattle.desk_report.specs.Values.{AreRunsOfSome};
 ghost use Rattle.desk_report_page.specs.FoundInSite.{AreDecidedOfSite, AreSmallMaps};
 
-use page_findings::{Deciding, deciding_lines};
 use desk_policy::Policy;
 use desk_report::{Class, FileSystemReport, LineReasons, classes_of_site};
 use desk_tables::FsId;
 use desk_text::Sequence;
 use desk_who::Run;
+use page_findings::{Deciding, deciding_lines};
 use page_maps::push_overview_maps;
 use std::alloc::{AllocError, Global};
 

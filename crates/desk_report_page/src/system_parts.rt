@@ -23,7 +23,6 @@ use crate::waiting_proposals::{Outcome, Waiting};
 use desk_core::{Head, newest_among};
 use desk_impact::Section;
 use desk_page_filesystem::{Outcome as ToldOutcome, ProposalPart};
-use page_findings::Finding;
 use desk_policy::{Policy, PolicyView, SiteFault, exports_file_name};
 use desk_report::{Class, FileSystemReport, Opening, orders_tell_verdicts};
 use desk_report_filesystem::{FileSystemData, lines_in, push_file_system_of};
@@ -31,6 +30,7 @@ use desk_report_places::{ListedGroups, changes_of, listed_groups};
 use desk_report_summary::{SiteFinding, site_findings};
 use desk_tables::{FsId, Mount};
 use desk_who::Run;
+use page_findings::Finding;
 use page_maps::push_file_system_maps;
 use std::alloc::{AllocError, Global};
 
