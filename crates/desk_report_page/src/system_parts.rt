@@ -30,7 +30,7 @@ use desk_report_places::{ListedGroups, changes_of, listed_groups};
 use desk_report_summary::{SiteFinding, site_findings};
 use desk_tables::{FsId, Mount};
 use desk_who::Run;
-use page_findings::Finding;
+use page_findings::{Deciding, Finding, SiteLine};
 use page_maps::push_file_system_maps;
 use std::alloc::{AllocError, Global};
 
