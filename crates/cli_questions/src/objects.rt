@@ -200,7 +200,7 @@ fn print_refusal(
     asked: Asked<'_>,
     refusal: Refusal,
 ) -> Result<Printed, Failure>
-    ensures { TriesToPrintObject (asked_of asked.entry) (RefusedBy refusal.entry) result }
+    ensures { TriesToPrintObject (asked_of asked.entry) (RefusedBy refusal) result }
 {
     let note = refusal_note(alloc, desk, asked, &refusal)?;
     refused(alloc, Refused::Edit(refusal), note)
