@@ -49,6 +49,10 @@ use Rattle.cli_verdict.specs.TryText.{MountQuestion, PrintsTried}
 use Rattle.cli_verdict.specs.declared.asking.Asking.{Asking}
 use Rattle.cli_verdict.specs.declared.try_text.Tried.{Tried}
 use Rattle.cli_expectations.specs.TestedPolicy.{Expected, PrintsTested}
+use Rattle.cli_sources.specs.Subject.{word_at}
+use Rattle.cli_sources.specs.Systems as systems
+use Rattle.cli_sources.specs.declared.subject.Subject.{Subject}
+use Rattle.cli_sources.specs.declared.subject.Subject.TheVariants.{File, Site}
 use Rattle.cli_texts.specs.CheckCommand as check
 use Rattle.cli_texts.specs.ClientsCommand as clients
 use Rattle.cli_texts.specs.CompareCommand as compare
@@ -56,15 +60,11 @@ use Rattle.cli_texts.specs.FaultyTexts.{AnswersOrFault}
 use Rattle.cli_texts.specs.ListsCommand as lists
 use Rattle.cli_texts.specs.SplitCommand as split
 use Rattle.cli_texts.specs.SplitText.{split_answer}
-use Rattle.cli_sources.specs.Subject.{word_at}
-use Rattle.cli_sources.specs.Systems as systems
 use Rattle.cli_texts.specs.TermsCommand as terms
 use Rattle.cli_texts.specs.TestCommand as test
 use Rattle.cli_texts.specs.TryCommand as try
 use Rattle.cli_texts.specs.declared.findings_form.FindingsForm.{FindingsForm}
 use Rattle.cli_texts.specs.declared.split_command.SplitSources.{SplitSources}
-use Rattle.cli_sources.specs.declared.subject.Subject.{Subject}
-use Rattle.cli_sources.specs.declared.subject.Subject.TheVariants.{File, Site}
 use Rattle.desk_findings.specs.declared.check_text.Gathered.{Gathered}
 use Rattle.desk_findings.specs.declared.check_faults.Source.{Source}
 use Rattle.desk_findings.specs.declared.check_text.WholeSources.{WholeSources}
