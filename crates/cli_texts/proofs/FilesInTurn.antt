@@ -1,5 +1,5 @@
 -- Files that are read in turn, some by one function and the rest after it.
-use Rattle.std.proofs.Common.{◌≡◌, ◌++◌, ℕ, Bool, false, List, [], ◌∷◌, Option, Result, Ok, Err, inl, inr, map, subst, sym}
+use Rattle.std.proofs.Common.{◌≡◌, ◌++◌, ℕ, Bool, false, List, [], ◌∷◌, Option, Result, Ok, Err, inl, inr, map, refl, subst, sym}
 use Rattle.desk_findings.specs.declared.check_faults.Source.{Source}
 use Rattle.cli_files.specs.Files.{ReadsFiles, ReadsInTurn, ReadsUnless, name_input_twice}
 use Rattle.cli_output.specs.declared.failure.Failure.{Failure}
@@ -13,6 +13,13 @@ reads_on [] rest known left (text ∷ texts) more none reads = absurd none
 reads_on (file ∷ files) rest known left [] more none reads = absurd none
 reads_on (file ∷ files) rest known left (text ∷ texts) more to reads =
     (to.0, (to.1.0, (to.1.1.0, reads_on files rest to.1.0 left texts more to.1.1.1 reads)))
+
+-- what is left does not matter
+pub turned : (files : List (List ℕ × Option (List ℕ))) (known left : Option (List ℕ)) (texts : List (List ℕ)) → ReadsTo files known texts left → ReadsInTurn files known (Ok texts)
+turned [] known left [] is = refl
+turned [] known left (text ∷ texts) none = absurd none
+turned (file ∷ files) known left [] none = absurd none
+turned (file ∷ files) known left (text ∷ texts) to = (to.0, (to.1.0, (to.1.1.0, turned files to.1.0 left texts to.1.1.1)))
 
 -- one of the rest has no text
 pub fails_on : (files rest : List (List ℕ × Option (List ℕ))) (known left : Option (List ℕ)) (texts : List (List ℕ)) (failure : Failure) → ReadsTo files known texts left → ReadsInTurn rest left (Err failure) → ReadsInTurn (files ++ rest) known (Err failure)

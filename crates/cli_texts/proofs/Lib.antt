@@ -4,3 +4,4 @@ pub mod TablesRead
 pub mod Viewed
 pub mod AskedSystems
 pub mod Custodians
+pub mod ExportsTexts

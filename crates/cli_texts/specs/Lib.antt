@@ -1,6 +1,7 @@
 pub mod CheckCommand
 pub mod ClientsCommand
 pub mod CompareCommand
+pub mod ExportsFiles
 pub mod FaultLine
 pub mod FaultyTexts
 pub mod FindingsForm
@@ -8,6 +9,7 @@ pub mod IgnoredNumbers
 pub mod ListsCommand
 pub mod MountWords
 pub mod Printing
+pub mod PrivateExportsFiles
 pub mod PrivateTableFiles
 pub mod SplitCommand
 pub mod SplitText

@@ -56,6 +56,10 @@ paths_in sources = map (λ (source : Source). source.path.now) sources
 abbrev pub texts_in : List Source → List (List ℕ)
 texts_in sources = map (λ (source : Source). source.text.now) sources
 
+-- a source is of one text
+abbrev pub IsPlain : Source → Type 0
+IsPlain source = source.origins.now ≡ []
+
 -- these sources have the paths of these files, and the texts that are read from them
 pub record AreRead (files : List (List ℕ × Option (List ℕ))) (known : Option (List ℕ)) (sources : List Source) : Type 0 where
   pub paths : paths_in sources ≡ map given_path files

@@ -10,6 +10,7 @@ pub mod check_command;
 mod check_site_files;
 pub mod clients_command;
 pub mod compare_command;
+mod exports_files;
 mod fault_line;
 mod faulty_texts;
 mod findings_form;

@@ -89,10 +89,12 @@ fn split_sources<'a>(file: &'a str, filesystems: &'a str, texts: &'a SplitTexts)
         file: Source {
             path: file,
             text: texts.file.as_str(),
+            origins: &[],
         },
         filesystems: Source {
             path: filesystems,
             text: texts.filesystems.as_str(),
+            origins: &[],
         },
     }
 }

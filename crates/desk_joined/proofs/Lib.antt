@@ -1,0 +1,3 @@
+pub mod More
+pub mod Numbers
+pub mod Words
