@@ -1,2 +1,3 @@
+mod Celled
 mod InForce
 mod Lined

@@ -13,11 +13,11 @@ use crate::pieces::{
 };
 use desk_exports::Terms;
 use desk_page::{
-    Span, push_attribute, push_code, push_code_list, push_escaped, push_line_link, push_number,
-    push_range, push_ranges, push_system_link, push_terms,
+    Span, push_attribute, push_code, push_code_list, push_escaped, push_line_link, push_network,
+    push_number, push_range, push_ranges, push_system_link, push_terms,
 };
 use desk_tables::FsId;
-use desk_text::Text;
+use desk_text::{Addr, Text};
 use std::alloc::{AllocError, Global};
 
 /// A part. Its own words are `'static`, and no character of them is markup; what a site has written comes in by `Text` and those below it.
@@ -55,6 +55,8 @@ pub enum Part<'a> {
     SmallPercent(u64, u64),
     LineLink(FsId, u32),
     Drawn(&'a Drawn),
+    /// A network, by its first address and its prefix, also that of one address.
+    Network(Addr, u8),
     Range(Span),
     Ranges(&'a [Span]),
     Terms(&'a Terms),
@@ -105,6 +107,7 @@ pub fn push_part(alloc: Global, part: Part<'_>, page: &mut String) -> Result<(),
         Part::SmallPercent(count, whole) => push_small_percent(count, whole, page),
         Part::LineLink(fs, line) => push_line_link(fs, line, page),
         Part::Drawn(drawn) => page.push_str(drawn.html.as_str()),
+        Part::Network(first, prefix) => push_network(first, prefix, page),
         Part::Range(span) => push_range(span.first, span.last, page),
         Part::Ranges(spans) => push_ranges(alloc, spans, page),
         Part::Terms(terms) => push_terms(terms, page),
