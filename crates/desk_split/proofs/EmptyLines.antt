@@ -25,7 +25,7 @@ some_group (line ∷ before) rest = by (is_continued line) (whole_groups (before
     by true (g ∷ gs) h = omega arith
     by false gs h = omega arith
 
-groups_part : (before rest : List Bytes) → whole_groups (before ++ [] ∷ rest) ≡ whole_groups (before ++ empty) ++ whole_groups rest
+pub groups_part : (before rest : List Bytes) → whole_groups (before ++ [] ∷ rest) ≡ whole_groups (before ++ empty) ++ whole_groups rest
 unfolding whole_groups
 groups_part [] rest = refl
 groups_part (line ∷ before) rest =
@@ -39,7 +39,7 @@ groups_part (line ∷ before) rest =
     by false gs h = refl
 
 -- these are the groups, but that the last has an empty line more, or an empty line is a group behind them
-abbrev AreEnded : List (List Bytes) → List (List Bytes) → Type 0
+abbrev pub AreEnded : List (List Bytes) → List (List Bytes) → Type 0
 AreEnded [] gs = ⊥
 AreEnded (a ∷ []) [] = a ≡ empty
 AreEnded (a ∷ next ∷ es) [] = ⊥
@@ -52,7 +52,7 @@ ended_onto line (a ∷ next ∷ es) [] h = absurd h
 ended_onto line (a ∷ es) (g ∷ gs) (inl h) = inl (ap (λ ls. line ∷ ls) h.0, h.1)
 ended_onto line (a ∷ es) (g ∷ gs) (inr h) = inr (ap (λ ls. line ∷ ls) h.0, h.1, h.2)
 
-are_ended : (before : List Bytes) → AreEnded (whole_groups (before ++ empty)) (whole_groups before)
+pub are_ended : (before : List Bytes) → AreEnded (whole_groups (before ++ empty)) (whole_groups before)
 unfolding whole_groups
 are_ended [] = refl
 are_ended (line ∷ before) = by (is_continued line) (are_ended before)
@@ -83,12 +83,12 @@ joined_empty (text ∷ []) = blank_behind (λ b. not (is_blank b)) text 32 refl
 joined_empty (text ∷ next ∷ texts) =
     behind_text (λ b. not (is_blank b)) text (32 ∷ spelled ((next ∷ texts) ++ empty)) (32 ∷ spelled (next ∷ texts)) (joined_empty (next ∷ texts))
 
-skipped_alike : (group : List Bytes) → whole_skipped (group ++ empty) ≡ whole_skipped group
+pub skipped_alike : (group : List Bytes) → whole_skipped (group ++ empty) ≡ whole_skipped group
 unfolding whole_skipped
 skipped_alike group =
     ap (λ ts. skips (first_non_blank (spelled ts))) (map-append without_continuation group empty) ∙ ap skips (joined_empty (map without_continuation group))
 
-skipped_empty : whole_skipped empty ≡ true
+pub skipped_empty : whole_skipped empty ≡ true
 unfolding whole_skipped
 skipped_empty = refl
 

@@ -8,3 +8,4 @@ pub mod WholeLines
 pub mod EmptyLines
 pub mod Told
 pub mod Joins
+pub mod NumberedLines

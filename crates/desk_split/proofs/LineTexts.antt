@@ -99,7 +99,7 @@ lines_before [] rest h = refl
 lines_before (part ∷ parts) rest h =
     more_lines part (parts ++ rest) (omega (arith, length-append parts rest)) ∙ ap (λ ls. strip_carriage_return part ∷ ls) (lines_before parts rest h)
 
-behind_feed : (a rest : Bytes) → lines (a ++ 10 ∷ rest) ≡ map strip_carriage_return (slice_split is_feed a) ++ lines rest
+pub behind_feed : (a rest : Bytes) → lines (a ++ 10 ∷ rest) ≡ map strip_carriage_return (slice_split is_feed a) ++ lines rest
 behind_feed a rest = ap lines_of_parts (parts_before a rest) ∙ lines_before (slice_split is_feed a) (slice_split is_feed rest) (some_part rest)
 
 behind_whole : (front : Bytes) → IsWhole front → (rest : Bytes) → lines (front ++ rest) ≡ lines front ++ lines rest

@@ -12,7 +12,7 @@ wholes parts = map (λ part. part.whole) parts
 
 -- 1. Physical lines.
 
-wholes_from : (start : ℕ) (parts : List Bytes) → wholes (physical_lines_from start parts) ≡ lines_of_parts parts
+pub wholes_from : (start : ℕ) (parts : List Bytes) → wholes (physical_lines_from start parts) ≡ lines_of_parts parts
 wholes_from start [] = refl
 wholes_from start (part ∷ []) = by (eqb (length part) 0)
   where
@@ -40,7 +40,7 @@ map_onto : (part : PhysicalLine) (gs : List (List PhysicalLine)) → map wholes 
 map_onto part [] = refl
 map_onto part (g ∷ gs) = refl
 
-wholes_of_groups : (parts : List PhysicalLine) → map wholes (groups parts) ≡ whole_groups (wholes parts)
+pub wholes_of_groups : (parts : List PhysicalLine) → map wholes (groups parts) ≡ whole_groups (wholes parts)
 unfolding whole_groups
 wholes_of_groups [] = refl
 wholes_of_groups (part ∷ parts) =
@@ -88,7 +88,7 @@ texts_by_whole : (parts : List PhysicalLine) → AllByRecursion IsSpelled parts 
 texts_by_whole [] h = refl
 texts_by_whole (part ∷ parts) h = ap (λ t. t ∷ map (λ p. p.text) parts) h.0 ∙ ap (λ ts. without_continuation part.whole ∷ ts) (texts_by_whole parts h.1)
 
-skipped_by_whole : (line : LogicalLine) → AreSpelled line → is_skipped line ≡ whole_skipped (line_wholes line)
+pub skipped_by_whole : (line : LogicalLine) → AreSpelled line → is_skipped line ≡ whole_skipped (line_wholes line)
 unfolding whole_skipped
 skipped_by_whole line h = ap (λ ts. skips (first_non_blank (join_with_byte 32 ts))) (texts_by_whole line.parts h)
 
@@ -108,7 +108,7 @@ kept_wholes (line ∷ lines) h =
     by false = refl
 
 module _ (text : Bytes) where
-  all_spelled : AllByRecursion AreSpelled (numbered 1 (groups (physical_lines text)))
+  pub all_spelled : AllByRecursion AreSpelled (numbered 1 (groups (physical_lines text)))
   all_spelled = numbered_spelled 1 (groups (physical_lines text)) (groups_spelled (physical_lines text) (lines_spelled 0 (slice_split is_feed text)))
 
   pub lines_are_spelled : AllByRecursion AreSpelled (logical_lines text)
