@@ -28,6 +28,7 @@ use Rattle.desk_policy.specs.declared.row.Row.{Row}
 use Rattle.desk_policy.specs.declared.site.ExportsText.{ExportsText}
 use Rattle.desk_policy.specs.declared.site_fault.SiteFault.{SiteFault}
 use Rattle.desk_policy.specs.SiteFile.{exports_place}
+use Rattle.desk_policy.proofs.SiteOrigins.{no_origins}
 use Rattle.desk_core.specs.Foresight.{revision_with}
 use Rattle.desk_core.specs.Head.{newest_in}
 use Rattle.desk_core.specs.PrivateState.{AreLinesOf, MakesChange, ReadsRows, site_with}
@@ -110,6 +111,9 @@ module _ {V : Type 0} (law : OneFileIsReplaced) (order : TablesAreInOrder) (in_f
   same_rows : content.rows ≡ former.0.rows
   same_rows = holds.lines.rows ∙ ap (λ read. (policy_read read).rows) former.1
 
+  no_origins_here : content.origins ≡ []
+  no_origins_here = holds.lines.origins ∙ ap (λ read. (policy_read read).origins) former.1 ∙ no_origins old former.0 former.1
+
   module _ (mount : Mount) (here : slice_get content.table fs ≡ Some mount) (file : name ≡ exports_name mount.path) where
     abbrev gives : Result ExportsFile SiteFault
     gives = read_text text content.table tables fs mount.path
@@ -149,6 +153,7 @@ module _ {V : Type 0} (law : OneFileIsReplaced) (order : TablesAreInOrder) (in_f
               lines = record {
                 table = same_table ∙ sym lines.table ∙ sym (ap (λ (c : Content). c.table) policy);
                 rows = ap (λ (all : List (List Row)). set all fs rows) same_rows ∙ sym lines.lines ∙ sym (ap (λ (c : Content). c.rows) policy);
+                origins = no_origins_here ∙ sym (no_origins new lines.policy lines.is) ∙ sym (ap (λ (c : Content). c.origins) policy);
               };
             };
             rests_on = (part, ap (λ (files : PerSite (List ℕ)). read_custodians files.custodians) differ.files, same_tables old new differ);

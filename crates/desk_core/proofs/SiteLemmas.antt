@@ -118,7 +118,7 @@ site_cons heads h = site_put (newest_in heads) h
 pub in_force : (texts : SiteTexts) (content : Content) → read_site texts ≡ Ok content → HasNoContradiction content → IsInForce texts content
 in_force texts content e none =
     let is : policy_of texts ≡ content = ap policy_read e in
-    record { consistent = subst IsSound (sym e) none; lines = record { table = sym (ap (λ c. c.table) is); rows = sym (ap (λ c. c.rows) is) } }
+    record { consistent = subst IsSound (sym e) none; lines = record { table = sym (ap (λ c. c.table) is); rows = sym (ap (λ c. c.rows) is); origins = sym (ap (λ c. c.origins) is) } }
 
 apart : (read : Result Content SiteFault) (fault : SiteFault) → IsSound read → IsFaultOf read fault → ⊥
 apart (Ok policy) fault none named = none _ _ _ _ named.here.is

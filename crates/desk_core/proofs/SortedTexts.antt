@@ -1,4 +1,4 @@
--- Texts that are sorted, each kept once, for `listing`, and for the hosts of desk_report_lists.
+-- Texts that are sorted, each kept once, for `listing`, and for the hosts of page_lists.
 use Rattle.std.proofs.Common.{◌≡◌, ◌∙◌, ℕ, zero, suc, ◌<◌, true, List, [], ◌∷◌, ap, arith, get_or, length, map, nat_cmp, nat_eq, refl, subst, sym}
 use Rattle.std.specs.List.{All, AllPairs, Any, Contains, dedup}
 use Rattle.std.specs.List.Retain.{DiffersFromLast, IsFiltered}

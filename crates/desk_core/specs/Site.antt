@@ -39,7 +39,7 @@ custodians_of texts = result_unwrap_or (read_custodians texts.files.custodians) 
 
 abbrev pub policy_read : Result Content SiteFault → Content
 policy_read (Ok policy) = policy
-policy_read (Err fault) = record { table = []; rows = []; warnings = [] }
+policy_read (Err fault) = record { table = []; rows = []; warnings = []; origins = [] }
 
 -- the policy of a site; an empty one if a file is faulty
 abbrev pub policy_of : SiteTexts → Content
@@ -53,10 +53,11 @@ IsSound (Err fault) = ⊥
 abbrev pub IsConsistent : SiteTexts → Type 0
 IsConsistent texts = IsSound (read_site texts)
 
--- a policy with the file systems and the lines of another; its warnings may be older
+-- a policy with the file systems and the lines of another, and the same names of lines; its warnings may be older
 pub record HasLinesOf (policy content : Content) : Type 0 where
   pub table : content.table ≡ policy.table
   pub rows : content.rows ≡ policy.rows
+  pub origins : content.origins ≡ policy.origins
 
 -- the policy of a consistent site is in force: its file systems and its lines
 pub record IsInForce (texts : SiteTexts) (content : Content) : Type 0 where

@@ -106,7 +106,7 @@ module _ (law : SameSayingsAreNoChange) (before lines : Content) (fs : FsId) (ta
   one_listed found is =
       elim (cases_Bool (is_place_in before.table fs.0 found.place)) as (λ _. AreListedAt before after found) [
         | inl here ↦ here_listed found here (is.asked here)
-        | inr away ↦ none_at before after found (is.silent away) (no_changes before fs.0 (rows_of lines fs.0) law found.place away).impact
+        | inr away ↦ none_at before after found (is.silent away) (no_changes before fs.0 lines law found.place away).impact
       ]
 
   pub lines_listed : (places : List Place) (found : List ListedPlace) → ArePlacesWith before (rows_of lines fs.0) places → AreListedAmong before lines (Some fs) places found → AreListed before after found

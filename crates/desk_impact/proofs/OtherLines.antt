@@ -10,8 +10,9 @@ use Rattle.std.proofs.lemmas.List.Elements.{All-append, All-cons, All-contains, 
 use Rattle.desk_text.specs.Address.{addr_text}
 use Rattle.desk_tables.specs.FileSystems.{fs_of}
 use Rattle.desk_tables.specs.declared.filesystems.Mount.{Mount}
+use Rattle.desk_origins.specs.declared.origins.Origin.{Origin}
 use Rattle.desk_policy.specs.Listings.{written}
-use Rattle.desk_policy.specs.Policy.{Content, rows_of, with_lines_of, with_rows}
+use Rattle.desk_policy.specs.Policy.{Content, rows_of, with_lines_of}
 use Rattle.desk_policy.specs.Prints.{verdict_line}
 use Rattle.desk_policy.specs.Verdict.{Grant, is_directory_among, is_in, lists, verdict_among, verdict_in, verdict_of}
 use Rattle.desk_policy.specs.Weights.{selected}
@@ -56,7 +57,7 @@ module _ (one other : Content) (fs : ℕ) (table : other.table ≡ one.table) (r
       ∙ ap (λ rs. verdict_among (record { 0 = fs }) (λ (row : Row). row.entry.alldirs) (selected rs address)) rows
       ∙ sym (ap (verdict_elsewhere one address) own)
 
--- what a verdict says, and how it is printed, rests on the table
+-- what a verdict says rests on the table, and how it is printed on the texts that lines are of, too
 module _ (one other : Content) (table : other.table ≡ one.table) where
   pub same_saying : (verdict : Result Grant Denial) → saying other verdict ≡ saying one verdict
   same_saying (Ok grant) = refl
@@ -64,11 +65,18 @@ module _ (one other : Content) (table : other.table ≡ one.table) where
   same_saying (Err (NoLine fs)) = ap (λ (t : List Mount). HasNoLine (option_map (λ (mount : Mount). mount.path) (slice_get t fs.0))) table
   same_saying (Err (NotListed fs line)) = ap (λ (t : List Mount). IsNotListed (option_map (λ (mount : Mount). mount.path) (slice_get t fs.0)) line) table
 
+module _ (one other : Content) (table : other.table ≡ one.table) (origins : other.origins ≡ one.origins) where
+  -- a policy of this table, whose lines are of these texts
+  abbrev of_both : List Mount → List Origin → Content
+  of_both mounts texts = record { table = mounts; rows = []; warnings = []; origins = texts }
+
   same_line : (verdict : Result Grant Denial) → verdict_line other verdict ≡ verdict_line one verdict
-  same_line (Ok grant) = refl
+  same_line (Ok grant) = ap (λ (os : List Origin). verdict_line (of_both one.table os) (Ok grant)) origins
   same_line (Err NoFileSystem) = refl
-  same_line (Err (NoLine fs)) = ap (λ (t : List Mount). verdict_line (record { table = t; rows = []; warnings = [] }) (Err (NoLine fs))) table
-  same_line (Err (NotListed fs line)) = ap (λ (t : List Mount). verdict_line (record { table = t; rows = []; warnings = [] }) (Err (NotListed fs line))) table
+  same_line (Err (NoLine fs)) = ap (λ (t : List Mount). verdict_line (of_both t one.origins) (Err (NoLine fs))) table
+  same_line (Err (NotListed fs line)) =
+      ap (λ (t : List Mount). verdict_line (of_both t other.origins) (Err (NotListed fs line))) table
+      ∙ ap (λ (os : List Origin). verdict_line (of_both one.table os) (Err (NotListed fs line))) origins
 
   same_text : (before : Content) (changes : List (Run TwoVerdicts)) → impact_text before other changes ≡ impact_text before one changes
   same_text before [] = refl
@@ -82,27 +90,27 @@ module _ (one other : Content) (table : other.table ≡ one.table) where
   same_section before place (change ∷ changes) = ap (λ t. heading place ++ t) (same_text before (change ∷ changes))
 
 -- ---- other lines for one file system
-module _ (before : Content) (fs : ℕ) (rows : List Row) where
-  elsewhere_in : (address : ℕ) (path : Path) (found : Option ℕ) → is_in found fs ≡ false → verdict_in (with_rows before fs rows) address path found ≡ verdict_in before address path found
+module _ (before : Content) (fs : ℕ) (lines : Content) where
+  elsewhere_in : (address : ℕ) (path : Path) (found : Option ℕ) → is_in found fs ≡ false → verdict_in (with_lines_of before fs lines) address path found ≡ verdict_in before address path found
   elsewhere_in address path None away = refl
   elsewhere_in address path (Some own) away =
       ap (λ rs. verdict_among (record { 0 = own }) (lists before own path) (selected rs address))
-      (get_or-set_other before.rows fs own rows [] (λ e. true≢false (sym (eq-eqb own fs e) ∙ away)))
+      (get_or-set_other before.rows fs own (rows_of lines fs) [] (λ e. true≢false (sym (eq-eqb own fs e) ∙ away)))
 
-  elsewhere_others : (address : ℕ) (found : Option ℕ) → is_in found fs ≡ false → verdict_elsewhere (with_rows before fs rows) address found ≡ verdict_elsewhere before address found
+  elsewhere_others : (address : ℕ) (found : Option ℕ) → is_in found fs ≡ false → verdict_elsewhere (with_lines_of before fs lines) address found ≡ verdict_elsewhere before address found
   elsewhere_others address None away = refl
   elsewhere_others address (Some own) away =
       ap (λ rs. verdict_among (record { 0 = own }) (λ (row : Row). row.entry.alldirs) (selected rs address))
-      (get_or-set_other before.rows fs own rows [] (λ e. true≢false (sym (eq-eqb own fs e) ∙ away)))
+      (get_or-set_other before.rows fs own (rows_of lines fs) [] (λ e. true≢false (sym (eq-eqb own fs e) ∙ away)))
 
-  elsewhere : (place : Place) → is_place_in before.table fs place ≡ false → (address : ℕ) → place_verdict (with_rows before fs rows) place address ≡ place_verdict before place address
+  elsewhere : (place : Place) → is_place_in before.table fs place ≡ false → (address : ℕ) → place_verdict (with_lines_of before fs lines) place address ≡ place_verdict before place address
   unfolding verdict_of
   elsewhere (Directory path) away address = elsewhere_in address path (fs_of before.table path) away
   elsewhere (Others mount) away address = elsewhere_others address (fs_of before.table mount) away
 
-  pub no_changes : SameSayingsAreNoChange → (place : Place) → is_place_in before.table fs place ≡ false → AreChangesAt before (with_rows before fs rows) (record { place = place; changes = []; mattering = [] })
+  pub no_changes : SameSayingsAreNoChange → (place : Place) → is_place_in before.table fs place ≡ false → AreChangesAt before (with_lines_of before fs lines) (record { place = place; changes = []; mattering = [] })
   no_changes law place away =
-      let after = with_rows before fs rows in
+      let after = with_lines_of before fs lines in
       let none = law before after (place_verdicts before after place)
       (λ address within. ap (saying after) (elsewhere place away address) ∙ same_saying before after refl (place_verdict before place address)) in
       record { impact = none.0; those = none.1 }
@@ -161,7 +169,7 @@ module _ (law : SameSayingsAreNoChange) (before lines : Content) (fs : ℕ) (tab
         record {
           fuller = none ∷ more.fuller;
           places_are = ap (λ ps. place ∷ ps) more.places_are;
-          changes = All-cons (AreChangesAt before after) none more.fuller (no_changes before fs (rows_of lines fs) law place away) more.changes;
+          changes = All-cons (AreChangesAt before after) none more.fuller (no_changes before fs lines law place away) more.changes;
           sections = ap (λ t. t ++ flat_map (section before after told) more.fuller) (none_written told place) ∙ more.sections;
           mattering = more.mattering;
           others = more.others;
@@ -174,7 +182,7 @@ module _ (law : SameSayingsAreNoChange) (before lines : Content) (fs : ℕ) (tab
       places_are = ap (λ p. p ∷ map (λ (one : PlaceChanges). one.place) more.fuller) is ∙ ap (λ ps. place ∷ ps) more.places_are;
       changes = All-cons (AreChangesAt before after) first more.fuller (here_changes first (ap test is ∙ here) are) more.changes;
       sections =
-          ap (λ t. t ++ flat_map (section before after told) more.fuller) (sym (same_section after lines table before first.place (listed told first)))
+          ap (λ t. t ++ flat_map (section before after told) more.fuller) (sym (same_section after lines table refl before first.place (listed told first)))
           ∙ ap (λ t. section before lines told first ++ t) more.sections;
       mattering =
           sum_by-cons (λ (one : PlaceChanges). length one.mattering) first more.fuller ∙ ap (λ n. length first.mattering + n) more.mattering

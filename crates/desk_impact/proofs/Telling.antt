@@ -88,7 +88,7 @@ module _ (compare : VerdictsAreDiscrete) where
   unfolding granted
   two_sayings (Grants line terms) (Grants number others) =
       elim (compare (grant_of line terms) (grant_of number others)) as (λ _. IsSameOrNot (Grants line terms) (Grants number others)) [
-        | inl is ↦ inl (ap (saying (record { table = []; rows = []; warnings = [] })) is)
+        | inl is ↦ inl (ap (saying (record { table = []; rows = []; warnings = []; origins = [] })) is)
         | inr apart ↦ inr (λ e. apart (ap granted e))
       ]
   two_sayings (Grants line terms) HasNoFileSystem = inr (λ e. cc)

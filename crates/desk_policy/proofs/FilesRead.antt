@@ -84,7 +84,7 @@ all_mapped files up i d below =
 
 -- the files of all file systems make a policy
 pub is_content : (table : List Mount) (read : Result (List ExportsFile) SiteFault) (rows rows' : List (List Row)) (warnings warnings' : List Warning) → rows ≡ []
-    → AddsFiles read (length table) rows rows' warnings warnings' → IsContent (record { table = table; rows = rows'; warnings = warnings' })
+    → AddsFiles read (length table) rows rows' warnings warnings' → IsContent (record { table = table; rows = rows'; warnings = warnings'; origins = [] })
 is_content table read rows rows' warnings warnings' empty adds =
     let is : rows' ≡ map (λ (f : ExportsFile). f.rows) adds.files = adds.lines ∙ ap (λ rs. rs ++ map (λ (f : ExportsFile). f.rows) adds.files) empty in
     record {
@@ -94,20 +94,20 @@ is_content table read rows rows' warnings warnings' empty adds =
 
 -- and it is the one that the files write
 pub content_is : (table : List Mount) (site_tables : SiteTables) (read : Result (List ExportsFile) SiteFault) (rows rows' : List (List Row)) (warnings warnings' : List Warning) → rows ≡ [] → warnings ≡ netgroup_warnings site_tables.netgroups site_tables.hosts
-    → (adds : AddsFiles read (length table) rows rows' warnings warnings') → content_with table site_tables adds.files ≡ record { table = table; rows = rows'; warnings = warnings' }
+    → (adds : AddsFiles read (length table) rows rows' warnings warnings') → content_with table site_tables adds.files ≡ record { table = table; rows = rows'; warnings = warnings'; origins = [] }
 content_is table site_tables read rows rows' warnings warnings' empty of_groups adds =
-    let P : List (List Row) → List Warning → Content = λ rs ws. record { table = table; rows = rs; warnings = ws } in
+    let P : List (List Row) → List Warning → Content = λ rs ws. record { table = table; rows = rs; warnings = ws; origins = [] } in
     ap (λ rs. P rs (content_with table site_tables adds.files).warnings) (sym (adds.lines ∙ ap (λ rs. rs ++ map (λ (f : ExportsFile). f.rows) adds.files) empty))
     ∙ ap (P rows') (sym (adds.warned ∙ ap (λ ws. ws ++ flat_map (λ (f : ExportsFile). f.warnings) adds.files) of_groups))
 
 -- the content after the exports files, if none of them is refused
 pub content_pushed : (table : List Mount) (read : Result (List ExportsFile) SiteFault) (result : Result (Unit {0}) (ReadError SiteFault)) (rows rows' : List (List Row)) (warnings warnings' : List Warning) → rows ≡ []
-    → PushesFiles result read (length table) rows rows' warnings warnings' → OnOk result (IsContent (record { table = table; rows = rows'; warnings = warnings' }))
+    → PushesFiles result read (length table) rows rows' warnings warnings' → OnOk result (IsContent (record { table = table; rows = rows'; warnings = warnings'; origins = [] }))
 content_pushed table read (Ok done) rows rows' warnings warnings' empty adds = is_content table read rows rows' warnings warnings' empty adds
 content_pushed table read (Err error) rows rows' warnings warnings' empty pushes = tt
 
 abbrev content_of_parts : List Mount → List (List Row) → List Warning → Content
-content_of_parts table rows warnings = record { table = table; rows = rows; warnings = warnings }
+content_of_parts table rows warnings = record { table = table; rows = rows; warnings = warnings; origins = [] }
 
 -- the policy after the exports files, or the first fault
 pub policy_pushed : (table : List Mount) (site_tables : SiteTables) (read : Result (List ExportsFile) SiteFault) (result : Result (Unit {0}) (ReadError SiteFault)) (rows rows' : List (List Row)) (warnings warnings' : List Warning) → rows ≡ []

@@ -31,6 +31,7 @@ pub mod OneMoreWord
 pub mod Compiling
 pub mod ContentsRead
 pub mod SiteLengths
+pub mod SiteOrigins
 pub mod SlotLemmas
 pub mod Commas
 pub mod InOrder

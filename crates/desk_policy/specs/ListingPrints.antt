@@ -9,6 +9,7 @@ use Rattle.desk_exports.specs.Prints.{terms_text}
 use Rattle.desk_exports.specs.declared.entry.Clients.{Clients}
 use Rattle.desk_exports.specs.declared.entry.Clients.TheVariants as clients
 use Rattle.desk_exports.specs.declared.entry.Entry.{Entry}
+use Rattle.desk_origins.specs.Origins.{line_name}
 use Rattle.desk_policy.specs.Policy.{Content}
 use Rattle.desk_policy.specs.Prints.{mount_text}
 use Rattle.desk_policy.specs.declared.listings.Shown.{Shown}
@@ -20,7 +21,7 @@ alldirs_text false = []
 -- the first line of what is shown of a file system, as `/usr alldirs rw sec=sys root=0:10 lines 1,3`
 abbrev pub shown_line : Content → Shown → List ℕ
 shown_line content shown =
-    mount_text content shown.fs.0 ++ alldirs_text shown.alldirs ++ 32 ∷ terms_text shown.terms ++ codes " lines " ++ join_with_byte 44 (map decimal shown.lines) ++ 10 ∷ []
+    mount_text content shown.fs.0 ++ alldirs_text shown.alldirs ++ 32 ∷ terms_text shown.terms ++ codes " lines " ++ join_with_byte 44 (map (line_name content.origins) shown.lines) ++ 10 ∷ []
 
 -- a line with a directory
 abbrev pub dir_line : List (List ℕ) → List ℕ

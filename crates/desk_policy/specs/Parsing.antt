@@ -20,7 +20,8 @@ use Rattle.desk_exports.specs.Tables.{TableRows}
 use Rattle.desk_exports.specs.declared.entry.Entry.{Entry}
 use Rattle.desk_exports.specs.declared.profile.Profile.{Profile}
 use Rattle.desk_exports.specs.declared.rules.Rule.{Rule}
-use Rattle.desk_policy.specs.Policy.{Content, content_of, with_warnings}
+use Rattle.desk_origins.specs.declared.origins.Origin.{Origin}
+use Rattle.desk_policy.specs.Policy.{Content, content_of, with_origins, with_warnings}
 use Rattle.desk_policy.specs.Row.{row_of}
 use Rattle.desk_policy.specs.Site.{SiteTexts}
 use Rattle.desk_policy.specs.SiteFault.{exports_name, group_fault, line_fault, table_fault}
@@ -113,6 +114,7 @@ content_with table site_tables files = record {
   table = table;
   rows = map (λ file. file.rows) files;
   warnings = netgroup_warnings site_tables.netgroups site_tables.hosts ++ flat_map (λ file. file.warnings) files;
+  origins = [];
 }
 
 -- the policy that the exports files write, with these file systems and tables
@@ -139,6 +141,11 @@ whole_policy site_tables table placed =
 abbrev pub read_whole_with : Profile → SiteTables → List Mount → List ℕ → Result Content SiteFault
 read_whole_with profile site_tables table text =
     then_read (in_file (line_fault (codes "exports")) (whole_answer (rows_with profile table site_tables) text)) (whole_policy site_tables table)
+
+-- the policy that a text is read as, whose lines are of these texts; or its fault
+abbrev pub read_of : List Origin → Result Content SiteFault → Result Content SiteFault
+read_of origins (Ok content) = Ok (with_origins content origins)
+read_of origins (Err fault) = Err fault
 
 -- the same policy without its warnings, or the same fault
 abbrev pub without_warnings : Result Content SiteFault → Result Content SiteFault

@@ -1,4 +1,5 @@
--- What a policy has in force: the table of file systems, the lines of each, and what its texts are warned of.
+-- What a policy has in force: the table of file systems, the lines of each, what its texts are warned of, and which of several texts
+-- each line is of.
 use Rattle.std.specs.Prelude.{◌≡◌, ℕ, ◌<◌, ◌==◌, List, [], nat_lt, length, map, filter, replicate, slice_index_or, slice_set, if◌then◌else◌}
 use Rattle.std.specs.List.{All, AllPairs, range_with_len}
 use Rattle.desk_tables.specs.declared.filesystems.FsId.{FsId}
@@ -7,15 +8,18 @@ use Rattle.desk_tables.specs.declared.hosts.HostRow.{HostRow}
 use Rattle.desk_netgroup.specs.declared.group_line.GroupLine.{GroupLine}
 use Rattle.desk_exports.specs.Files.{EntriesAscend}
 use Rattle.desk_exports.specs.declared.entry.Entry.{Entry}
+use Rattle.desk_origins.specs.declared.origins.Origin.{Origin}
 use Rattle.desk_policy.specs.declared.row.Row.{Row}
 use Rattle.desk_policy.specs.declared.warning.Warning.{Warning}
 use Rattle.desk_policy.specs.Row.{row_of}
 
--- the table of file systems, the lines of each file system, and the warnings of their texts
+-- The table of file systems, the lines of each file system, and the warnings of their texts. If several texts were read as one, the
+-- numbers of lines are those in the whole, and the origins say which text each line is of; else there are none.
 pub record Content : Type 0 where
   pub table : List Mount
   pub rows : List (List Row)
   pub warnings : List Warning
+  pub origins : List Origin
 
 -- lines in the order of their numbers, each number once
 abbrev pub AreAscending : List Row → Type 0
@@ -44,23 +48,27 @@ AscendingEntriesAscendInEachFile = (placed : List (FsId × Entry)) → EntriesAs
 
 -- other lines for one file system
 abbrev pub with_rows : Content → ℕ → List Row → Content
-with_rows content fs rows = record { table = content.table; rows = slice_set content.rows fs rows; warnings = content.warnings }
+with_rows content fs rows = record { table = content.table; rows = slice_set content.rows fs rows; warnings = content.warnings; origins = content.origins }
 
--- a policy, with the lines that another has for one file system in place of its own
+-- a policy, with the lines that another has for one file system in place of its own, and the texts that those are of
 abbrev pub with_lines_of : Content → ℕ → Content → Content
-with_lines_of content fs other = with_rows content fs (rows_of other fs)
+with_lines_of content fs other = record { table = content.table; rows = slice_set content.rows fs (rows_of other fs); warnings = content.warnings; origins = other.origins }
 
 -- the policy with these file systems of which one has these lines, and no other has any; nothing is warned of
 abbrev pub content_of_lines : List Mount → ℕ → List Row → Content
-content_of_lines table fs rows = record { table = table; rows = slice_set (replicate (length table) []) fs rows; warnings = [] }
+content_of_lines table fs rows = record { table = table; rows = slice_set (replicate (length table) []) fs rows; warnings = []; origins = [] }
 
 -- each file system has the lines of the entries that are placed in it; nothing is warned of
 unfoldable pub content_of : List GroupLine → List HostRow → List Mount → List (FsId × Entry) → Content
-content_of netgroups hosts table placed = record { table = table; rows = map (rows_placed netgroups hosts placed) (range_with_len 0 (length table)); warnings = [] }
+content_of netgroups hosts table placed = record { table = table; rows = map (rows_placed netgroups hosts placed) (range_with_len 0 (length table)); warnings = []; origins = [] }
 
 -- the same lines, with these warnings
 abbrev pub with_warnings : Content → List Warning → Content
-with_warnings content warnings = record { table = content.table; rows = content.rows; warnings = warnings }
+with_warnings content warnings = record { table = content.table; rows = content.rows; warnings = warnings; origins = content.origins }
+
+-- the same lines, of these texts
+abbrev pub with_origins : Content → List Origin → Content
+with_origins content origins = record { table = content.table; rows = content.rows; warnings = content.warnings; origins = origins }
 
 -- the lines in force of a file system of the table are those placed in it, and there are none beyond the table
 abbrev pub EachHasItsLines : Type 0

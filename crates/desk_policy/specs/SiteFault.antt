@@ -12,6 +12,8 @@ use Rattle.desk_netgroup.specs.Faults as groups
 use Rattle.desk_netgroup.specs.declared.faults.GroupFault.{GroupFault}
 use Rattle.desk_exports.specs.Rules as lines
 use Rattle.desk_exports.specs.declared.rules.Rule.{Rule}
+use Rattle.desk_origins.specs.Origins.{line_name}
+use Rattle.desk_origins.specs.declared.origins.Origin.{Origin}
 use Rattle.desk_policy.specs.SiteFile.{exports_file_name}
 use Rattle.desk_policy.specs.declared.contradiction.Contradiction.{Contradiction}
 use Rattle.desk_policy.specs.declared.site_fault.SiteFault.{SiteFault}
@@ -54,20 +56,20 @@ abbrev pub contradiction_fault : List ℕ → Contradiction → SiteFault
 contradiction_fault file found = record { file = file; line = found.line; rule = rule.Contradiction; other = Some found.other; address = Some found.address }
 
 -- the earlier line of a fault, and its address, each behind a word for it; nothing if there is none
-abbrev pub other_text : Option ℕ → List ℕ
-other_text None = []
-other_text (Some line) = codes " line " ++ decimal line
+abbrev pub other_text : List Origin → Option ℕ → List ℕ
+other_text origins None = []
+other_text origins (Some line) = codes " line " ++ line_name origins line
 
 abbrev pub address_text : Option Addr → List ℕ
 address_text None = []
 address_text (Some address) = codes " address " ++ addr_text (number_of address)
 
--- where a fault is in its file, as `line 2 rule 26 Contradiction line 1 address 10.0.0.5`
-abbrev pub place_text : SiteFault → List ℕ
-place_text fault =
-    codes "line " ++ decimal fault.line ++ codes " rule " ++ decimal (rule_number fault.rule)
-    ++ 32 ∷ rule_name fault.rule ++ other_text fault.other ++ address_text fault.address
+-- where a fault is in its file, or in the texts that are read as one, as `line 2 rule 26 Contradiction line 1 address 10.0.0.5`
+abbrev pub place_text : List Origin → SiteFault → List ℕ
+place_text origins fault =
+    codes "line " ++ line_name origins fault.line ++ codes " rule " ++ decimal (rule_number fault.rule)
+    ++ 32 ∷ rule_name fault.rule ++ other_text origins fault.other ++ address_text fault.address
 
 -- a fault, as `fault netgroup line 3 rule 3 Duplicate line 1`
 abbrev pub fault_line : SiteFault → List ℕ
-fault_line fault = codes "fault " ++ fault.file ++ 32 ∷ place_text fault
+fault_line fault = codes "fault " ++ fault.file ++ 32 ∷ place_text [] fault

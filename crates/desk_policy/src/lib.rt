@@ -53,7 +53,7 @@ pub use parsing::{
 pub use per_site::PerSite;
 pub use per_table::PerTable;
 pub use policy::{Policy, are_ascending};
-pub use prints::{mount_text, verdict_text};
+pub use prints::{mount_text, name_of, verdict_text};
 pub use row::Row;
 pub use row_addrs::RowAddrs;
 pub use site::{ExportsText, Site};

@@ -6,6 +6,7 @@ ghost use Rattle.std.specs.List.{flat_map, join_with_byte};
 ghost use Rattle.std.specs.String.{string_bytes};
 ghost use Rattle.desk_text.specs.Address.{addr_text};
 ghost use Rattle.desk_exports.specs.Prints.{terms_text};
+ghost use Rattle.desk_origins.specs.Origins.{line_name};
 ghost use Rattle.desk_policy.specs.ListingPrints as spec;
 
 use crate::listings::Shown;
@@ -13,6 +14,7 @@ use crate::policy::Policy;
 use crate::prints::mount_text;
 use crate::row::Row;
 use desk_exports::{Clients, Entry, Names, Terms};
+use desk_origins::{LineName, Origin};
 use desk_text::{Net, Path};
 use std::alloc::{AllocError, Global};
 
@@ -77,7 +79,7 @@ fn push_first_line(
     ensures { OnOk result (string_bytes text.new ≡ string_bytes text.old ++ spec.shown_line policy.now shown.now) }
 {
     let terms = terms_text(alloc, &shown.terms)?;
-    let lines = joined_numbers(alloc, shown.lines.as_slice())?;
+    let lines = joined_names(alloc, policy.origins(), shown.lines.as_slice())?;
     text.push_str(mount_text(policy, shown.fs))?;
     text.push_str(alldirs_text(shown.alldirs))?;
     text.push_str(" ")?;
@@ -100,27 +102,34 @@ fn alldirs_text(alldirs: bool) -> &'static str
     if alldirs { " alldirs" } else { "" }
 }
 
-/// Joins numbers by commas.
-fn joined_numbers(alloc: Global, numbers: &[u32]) -> Result<String, AllocError>
-    ensures { IfOk result (λ text. string_bytes text ≡ join_with_byte 44 (map decimal numbers.now)) }
+/// Joins the names of lines by commas.
+fn joined_names(alloc: Global, origins: &[Origin], numbers: &[u32]) -> Result<String, AllocError>
+    ensures { IfOk result (λ text. string_bytes text ≡ join_with_byte 44 (map (line_name origins.now) numbers.now)) }
 {
     let mut text = String::new(alloc);
     let Some((first, others)) = numbers.split_first() else {
         return Ok(text);
     };
-    push_number(alloc, *first, &mut text)?;
+    push_name(alloc, origins, *first, &mut text)?;
     for number in others {
         text.push_str(",")?;
-        push_number(alloc, *number, &mut text)?;
+        push_name(alloc, origins, *number, &mut text)?;
     }
     Ok(text)
 }
 
-fn push_number(alloc: Global, number: u32, text: &mut String) -> Result<(), AllocError>
-    ensures { OnOk result (string_bytes text.new ≡ string_bytes text.old ++ decimal number) }
+/// Adds the name of a line.
+fn push_name(
+    alloc: Global,
+    origins: &[Origin],
+    line: u32,
+    text: &mut String,
+) -> Result<(), AllocError>
+    ensures { OnOk result (string_bytes text.new ≡ string_bytes text.old ++ line_name origins.now line) }
 {
-    let digits = format!(in alloc; "{number}")?;
-    text.push_str(digits.as_str())?;
+    let name = LineName { origins, line };
+    let written = format!(in alloc; "{name}")?;
+    text.push_str(written.as_str())?;
     Ok(())
 }
 

@@ -38,6 +38,7 @@ use crate::unlisted_custodians::unlisted_line;
 use crate::warning::{Warning, push_entry, push_netgroup, whole_warnings};
 use desk_exports::{Boxed, Entry, Profile, Rule, Tables, read_file, read_whole};
 use desk_netgroup::{GroupFault, Netgroups};
+use desk_origins::{Origin, copied};
 use desk_tables::{
     Custodians, FileSystems, FsId, Groups, Hosts, Mount, Networks, TableFault, TableRule, Users,
 };
@@ -230,7 +231,7 @@ fn read_policy(
         &mut rows,
         &mut warnings,
     ) {
-        Ok(()) => Ok(Policy::of_parts(filesystems, rows, warnings)),
+        Ok(()) => Ok(Policy::of_parts(alloc, filesystems, rows, warnings)),
         Err(error) => Err(error),
     }
 }
@@ -248,9 +249,9 @@ fn push_policy(
     requires few { length filesystems.now ≤ 256 }
     requires rows { rows.old.items ≡ [] }
     requires warnings { warnings.old ≡ [] }
-    ensures read { ReadsAs (λ done. record { table = filesystems.now; rows = rows.new.items; warnings = warnings.new }) result
+    ensures read { ReadsAs (λ done. record { table = filesystems.now; rows = rows.new.items; warnings = warnings.new; origins = [] }) result
         (spec.read_policy (texts_of site.now) filesystems.now site_tables.now) }
-    ensures content { OnOk result (IsContent (record { table = filesystems.now; rows = rows.new.items; warnings = warnings.new })) }
+    ensures content { OnOk result (IsContent (record { table = filesystems.now; rows = rows.new.items; warnings = warnings.new; origins = [] })) }
 {
     push_netgroup(alloc, &site_tables.netgroups, &site_tables.hosts, warnings)?;
     let mut known = KnownNames::new(alloc);
@@ -574,17 +575,19 @@ pub fn parse_whole_with(
 }
 
 /// Reads the policy that a whole exports text writes, as `parse_whole_with` does, but none of its warnings. There may be one
-/// for each word of the text, so this is for callers that show none.
+/// for each word of the text, so this is for callers that show none. If several texts were read as one, its lines are of these.
 pub fn parse_whole_without_warnings(
     alloc: Global,
     profile: Profile,
     text: &str,
+    origins: &[Origin],
     filesystems: FileSystems,
     site_tables: &SiteTables,
 ) -> Result<Policy, ReadError<SiteFault>>
     requires { IsReadable text.now }
-    ensures { Reads result (spec.without_warnings (spec.read_whole_with profile site_tables.now filesystems text.now)) }
+    ensures { Reads result (spec.without_warnings (spec.read_of origins.now (spec.read_whole_with profile site_tables.now filesystems text.now))) }
 {
+    let own = copied(alloc, origins)?;
     let entries = whole_entries(alloc, profile, text, &filesystems, site_tables)?;
     let policy = Policy::of_entries(
         alloc,
@@ -593,7 +596,7 @@ pub fn parse_whole_without_warnings(
         filesystems,
         entries,
     )?;
-    Ok(policy)
+    Ok(policy.with_origins(own))
 }
 
 /// Reads the entries of a whole exports text, or its fault in the file `exports`.

@@ -1,7 +1,7 @@
-//! A policy: the table of file systems, the lines in force of each, and the warnings of their texts.
+//! A policy: the table of file systems, the lines in force of each, the warnings of their texts, and which of several texts a line is of.
 
 ghost use Rattle.std.specs.Prelude.{◌≡◌, ◌<◌, All, Decides, List, [], IfOk, OnOk, length, replicate};
-ghost use Rattle.desk_policy.specs.Policy.{AreAscending, EachFileAscends, IsContent, content_of, content_of_lines, rows_of, with_rows, with_warnings};
+ghost use Rattle.desk_policy.specs.Policy.{AreAscending, EachFileAscends, IsContent, content_of, content_of_lines, rows_of, with_origins, with_rows, with_warnings};
 ghost use Rattle.desk_policy.specs.PrivatePolicy.{with_row};
 
 use crate::known_names::KnownNames;
@@ -9,16 +9,19 @@ use crate::row::Row;
 use crate::warning::Warning;
 use desk_exports::{Boxed, Entry};
 use desk_netgroup::Netgroups;
+use desk_origins::Origin;
 use desk_tables::{FileSystems, FsId, Hosts};
 use desk_text::Sequence;
 use std::alloc::{AllocError, Global};
 use std::marker::Model;
 
-/// The table of file systems, the lines of each, in the order of their entries, and the warnings of their texts.
+/// The table of file systems, the lines of each, in the order of their entries, the warnings of their texts, and the texts that were
+/// read as one.
 pub struct Policy {
     filesystems: FileSystems,
     rows: Vec<Sequence<Row>>,
     warnings: Sequence<Warning>,
+    origins: Sequence<Origin>,
 }
 
 // It is written out, so that the crates above do not prove again how each part is dropped.
@@ -28,6 +31,7 @@ impl Drop for Policy {
             filesystems: _,
             rows: _,
             warnings: _,
+            origins: _,
         } = self;
     }
 }
@@ -37,9 +41,9 @@ impl Model for Policy {
 
     ghost Value = { Content };
 
-    ghost view = { λ p. record { table = p.filesystems; rows = p.rows.items; warnings = p.warnings } };
+    ghost view = { λ p. record { table = p.filesystems; rows = p.rows.items; warnings = p.warnings; origins = p.origins } };
 
-    ghost invariant = { λ p. IsContent (record { table = p.filesystems; rows = p.rows.items; warnings = p.warnings }) };
+    ghost invariant = { λ p. IsContent (record { table = p.filesystems; rows = p.rows.items; warnings = p.warnings; origins = p.origins }) };
 }
 
 impl Policy {
@@ -64,10 +68,12 @@ impl Policy {
             add_row(&mut rows, fs, row)?;
         }
         let warnings = Sequence::new(alloc);
+        let origins = Sequence::new(alloc);
         Ok(Policy {
             filesystems,
             rows,
             warnings,
+            origins,
         })
     }
 
@@ -85,10 +91,12 @@ impl Policy {
         let mut lists = empty_lists(alloc, &filesystems)?;
         lists[fs.0 as usize] = rows;
         let warnings = Sequence::new(alloc);
+        let origins = Sequence::new(alloc);
         Ok(Policy {
             filesystems,
             rows: lists,
             warnings,
+            origins,
         })
     }
 
@@ -100,27 +108,50 @@ impl Policy {
             filesystems,
             rows,
             warnings: _,
+            origins,
         } = self;
         Policy {
             filesystems,
             rows,
             warnings,
+            origins,
+        }
+    }
+
+    /// Makes the policy whose lines are of these texts, which were read as one.
+    pub fn with_origins(self, origins: Sequence<Origin>) -> Policy
+        ensures { result ≡ with_origins self origins }
+    {
+        let Policy {
+            filesystems,
+            rows,
+            warnings,
+            origins: _,
+        } = self;
+        Policy {
+            filesystems,
+            rows,
+            warnings,
+            origins,
         }
     }
 
     /// Makes the policy of these parts.
     pub(crate) fn of_parts(
+        alloc: Global,
         filesystems: FileSystems,
         rows: Vec<Sequence<Row>>,
         warnings: Sequence<Warning>,
     ) -> Policy
-        requires { IsContent (record { table = filesystems; rows = rows.items; warnings = warnings }) }
-        ensures { result ≡ record { table = filesystems; rows = rows.items; warnings = warnings } }
+        requires { IsContent (record { table = filesystems; rows = rows.items; warnings = warnings; origins = [] }) }
+        ensures { result ≡ record { table = filesystems; rows = rows.items; warnings = warnings; origins = [] } }
     {
+        let origins = Sequence::new(alloc);
         Policy {
             filesystems,
             rows,
             warnings,
+            origins,
         }
     }
 
@@ -158,6 +189,13 @@ impl Policy {
         ensures { result.now ≡ self.now.warnings }
     {
         self.warnings.as_slice()
+    }
+
+    /// Lends the texts that were read as one, if they were several.
+    pub fn origins(&self) -> &[Origin]
+        ensures { result.now ≡ self.now.origins }
+    {
+        self.origins.as_slice()
     }
 
     /// Lends the table of file systems.

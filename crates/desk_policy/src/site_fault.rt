@@ -5,6 +5,7 @@ ghost use Rattle.desk_policy.specs.SiteFault.{rule_name, rule_number, rule_sente
 
 use desk_exports::Rule;
 use desk_netgroup::GroupRule;
+use desk_origins::{LineName, Origin};
 use desk_tables::TableRule;
 use desk_text::{Addr, Said, Text};
 use std::fmt;
@@ -82,7 +83,10 @@ impl fmt::Display for SiteFault {
 
     fn fmt<W: fmt::Write>(&self, f: &mut fmt::Formatter<W>) -> fmt::Result {
         let file = self.file.as_str();
-        let place = FaultPlace { fault: self };
+        let place = FaultPlace {
+            fault: self,
+            origins: &[],
+        };
         write!(f, "fault {file} {place}")
     }
 }
@@ -91,19 +95,25 @@ impl fmt::Display for SiteFault {
 #[derive(Clone, Copy)]
 pub struct FaultPlace<'a> {
     pub fault: &'a SiteFault,
+    /// The texts that are read as one, if the fault is one of several.
+    pub origins: &'a [Origin],
 }
 
 impl<'a> fmt::Display for FaultPlace<'a> {
     ghost use Rattle.std.specs.Prelude.{Some};
     ghost use Rattle.desk_policy.specs.SiteFault.{place_text};
 
-    ghost output = { λ place. Some (place_text place.fault.now) };
+    ghost output = { λ place. Some (place_text place.origins.now place.fault.now) };
 
     fn fmt<W: fmt::Write>(&self, f: &mut fmt::Formatter<W>) -> fmt::Result {
-        let line = self.fault.line;
+        let line = LineName {
+            origins: self.origins,
+            line: self.fault.line,
+        };
         let number = self.fault.rule.number();
         let name = self.fault.rule.name();
         let behind = Behind {
+            origins: self.origins,
             other: self.fault.other,
             address: self.fault.address,
         };
@@ -113,23 +123,30 @@ impl<'a> fmt::Display for FaultPlace<'a> {
 
 /// What is printed behind the rule of a fault: the earlier line and the address, if it has them.
 #[derive(Clone, Copy)]
-struct Behind {
+struct Behind<'a> {
+    origins: &'a [Origin],
     other: Option<u32>,
     address: Option<Addr>,
 }
 
-impl fmt::Display for Behind {
+impl<'a> fmt::Display for Behind<'a> {
     ghost use Rattle.std.specs.Prelude.{◌++◌, Some};
     ghost use Rattle.desk_policy.specs.SiteFault.{address_text, other_text};
 
-    ghost output = { λ behind. Some (other_text behind.other ++ address_text behind.address) };
+    ghost output = { λ behind. Some (other_text behind.origins.now behind.other ++ address_text behind.address) };
 
     fn fmt<W: fmt::Write>(&self, f: &mut fmt::Formatter<W>) -> fmt::Result {
         match self.other {
-            Some(line) => match self.address {
-                Some(address) => write!(f, " line {line} address {address}"),
-                None => write!(f, " line {line}"),
-            },
+            Some(line) => {
+                let name = LineName {
+                    origins: self.origins,
+                    line,
+                };
+                match self.address {
+                    Some(address) => write!(f, " line {name} address {address}"),
+                    None => write!(f, " line {name}"),
+                }
+            }
             None => match self.address {
                 Some(address) => write!(f, " address {address}"),
                 None => Ok(()),

@@ -14,7 +14,7 @@ left_from leaves fs (rows ∷ files) = filter (λ row. not (leaves fs row.entry.
 
 -- the policy with these lines made comments
 abbrev pub without_lines : Content → (ℕ → ℕ → Bool) → Content
-without_lines content leaves = record { table = content.table; rows = left_from leaves 0 content.rows; warnings = content.warnings }
+without_lines content leaves = record { table = content.table; rows = left_from leaves 0 content.rows; warnings = content.warnings; origins = content.origins }
 
 -- With any lines made comments that decide nothing, of one file system or of several, every verdict stays, with its line and its
 -- terms.

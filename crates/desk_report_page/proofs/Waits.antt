@@ -39,14 +39,14 @@ one_more newest content proposals proposal old new before gains = record {
 pub same_lines : (texts : SiteTexts) (old new : Content) → IsInForce texts old → read_site texts ≡ Ok new → HasLinesOf old new
 same_lines texts old new force is =
     let made : policy_of texts ≡ new = ap policy_read is in
-    record { table = sym (force.lines.table ∙ ap (λ (c : Content). c.table) made); rows = sym (force.lines.rows ∙ ap (λ (c : Content). c.rows) made) }
+    record { table = sym (force.lines.table ∙ ap (λ (c : Content). c.table) made); rows = sym (force.lines.rows ∙ ap (λ (c : Content). c.rows) made); origins = sym (force.lines.origins ∙ ap (λ (c : Content). c.origins) made) }
 
 -- only the file systems and the lines of the policy count for what would be in force
 with_lines : (texts : SiteTexts) (old new : Content) (fs : ℕ) (lines : Content) → HasLinesOf old new → IsInForce texts (with_lines_of old fs lines)
     → IsInForce texts (with_lines_of new fs lines)
 with_lines texts old new fs lines same is = record {
   consistent = is.consistent;
-  lines = record { table = same.table ∙ is.lines.table; rows = ap (λ rows. slice_set rows fs (rows_of lines fs)) same.rows ∙ is.lines.rows };
+  lines = record { table = same.table ∙ is.lines.table; rows = ap (λ rows. slice_set rows fs (rows_of lines fs)) same.rows ∙ is.lines.rows; origins = is.lines.origins };
 }
 
 outcome : (newest : Newest) (old new : Content) (fs : ℕ) (proposal : Proposal) (told : Result Content SiteFault) → HasLinesOf old new → IsOutcomeOf newest old fs proposal told

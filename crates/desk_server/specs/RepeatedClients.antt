@@ -34,7 +34,7 @@ loaded rows = loaded_behind [] rows
 
 -- the policy of the lines that mountd puts in force, file system by file system
 abbrev pub loaded_content : Content → Content
-loaded_content content = record { table = content.table; rows = map loaded content.rows; warnings = content.warnings }
+loaded_content content = record { table = content.table; rows = map loaded content.rows; warnings = content.warnings; origins = content.origins }
 
 -- an earlier line has this client of a line
 pub record SharesClient (rows : List Row) (row other : Row) (client : LineKey) : Type 0 where

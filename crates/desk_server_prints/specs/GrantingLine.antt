@@ -1,6 +1,7 @@
 -- By which line mountd(8) grants what is denied here, and how it is said. (this project's own)
 use Rattle.std.specs.Prelude.{ℕ, ◌++◌, List, [], ◌∷◌, Option, None, Some, Result, Ok, Err, codes}
-use Rattle.std.specs.Fmt.{decimal}
+use Rattle.desk_origins.specs.Origins.{line_name}
+use Rattle.desk_origins.specs.declared.origins.Origin.{Origin}
 use Rattle.desk_policy.specs.Verdict.{Grant}
 use Rattle.desk_policy.specs.declared.row.Row.{Row}
 use Rattle.desk_policy.specs.declared.verdict.Denial.{Denial}
@@ -21,6 +22,6 @@ first_number [] = None
 first_number (row ∷ rows) = Some row.entry.line
 
 -- by which line mountd grants this, if it does
-abbrev pub wider_note : Option ℕ → List ℕ
-wider_note None = []
-wider_note (Some line) = codes "exportdesk: mountd(8) grants this by line " ++ decimal line ++ codes ", which is not selected here: --mountd decides by its rule\n"
+abbrev pub wider_note : List Origin → Option ℕ → List ℕ
+wider_note origins None = []
+wider_note origins (Some line) = codes "exportdesk: mountd(8) grants this by line " ++ line_name origins line ++ codes ", which is not selected here: --mountd decides by its rule\n"

@@ -1,7 +1,8 @@
 -- Who may mount a path by the rule of the server, and the first client to whom it grants what is denied here. (this project's own)
 use Rattle.std.specs.Prelude.{◌≡◌, ℕ, ◌<◌, ◌^◌, ◌++◌, List, [], Option, None, Some, Result, codes}
-use Rattle.std.specs.Fmt.{decimal}
 use Rattle.desk_text.specs.Address.{addr_text, number_of}
+use Rattle.desk_origins.specs.Origins.{line_name}
+use Rattle.desk_origins.specs.declared.origins.Origin.{Origin}
 use Rattle.desk_policy.specs.Policy.{Content}
 use Rattle.desk_policy.specs.Verdict.{Grant, verdict_of}
 use Rattle.desk_policy.specs.declared.verdict.Denial.{Denial}
@@ -39,16 +40,16 @@ abbrev pub address_text : ℕ → List ℕ
 address_text address = codes "exportdesk: mountd(8) grants " ++ addr_text address
 
 -- by which line
-abbrev pub line_text : ℕ → List ℕ
-line_text line = codes " this by line " ++ decimal line ++ codes ", which is not selected there: --mountd decides by its rule\n"
+abbrev pub line_text : List Origin → ℕ → List ℕ
+line_text origins line = codes " this by line " ++ line_name origins line ++ codes ", which is not selected there: --mountd decides by its rule\n"
 
 -- to which client the server grants what is denied here, and by which line, if there is one
-abbrev pub first_note : Option WiderClient → List ℕ
-first_note None = []
-first_note (Some client) = address_text (number_of client.address) ++ line_text client.line
+abbrev pub first_note : List Origin → Option WiderClient → List ℕ
+first_note origins None = []
+first_note origins (Some client) = address_text (number_of client.address) ++ line_text origins client.line
 
 -- The client is told with the least address to whom the server grants this path, which is denied to it here.
 pub record TellsFirst (content : Content) (path : List (List ℕ)) (note : List ℕ) : Type 0 where
   pub found : Option WiderClient
   pub is : IsFirstOrNone (wider_at content path) found
-  pub text : note ≡ first_note found
+  pub text : note ≡ first_note content.origins found

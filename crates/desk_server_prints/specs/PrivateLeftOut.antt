@@ -11,4 +11,4 @@ use Rattle.desk_server_prints.specs.LeftOutNote.{AreRepeatedIn, first_notes}
 pub record AddsNote (content : Content) (mounts : List Mount) (old new : List ℕ) : Type 0 where
   pub lists : List (List RepeatedClient)
   pub are : AllZip (λ mount found. AreRepeatedIn content (fs_of content.table mount.path) found) mounts lists
-  pub text : new ≡ old ++ first_notes mounts lists
+  pub text : new ≡ old ++ first_notes content.origins mounts lists

@@ -11,6 +11,7 @@ ghost use Rattle.desk_server.specs.Server.{server_verdict_of};
 ghost use Rattle.desk_server_prints.specs.PrivateGrantingLine.{is_wider, wider_weight};
 ghost use Rattle.desk_server_prints.specs.GrantingLine as spec;
 
+use desk_origins::{LineName, Origin};
 use desk_policy::{Denial, Policy, Row, Verdict, weight_of};
 use desk_text::{Addr, Path};
 use std::alloc::{AllocError, Global};
@@ -25,19 +26,21 @@ pub fn wider_note(
 ) -> Result<String, AllocError>
     requires { verdict_result verdict.now ≡ verdict_of policy.now (number_of address) path.now }
     ensures { IfOk result (λ note. string_bytes note
-        ≡ spec.wider_note (spec.wider_line (verdict_of policy.now (number_of address) path.now) (server_verdict_of policy.now (number_of address) path.now))) }
+        ≡ spec.wider_note policy.now.origins (spec.wider_line (verdict_of policy.now (number_of address) path.now) (server_verdict_of policy.now (number_of address) path.now))) }
 {
-    line_note(alloc, wider_line(policy, address, path, verdict))
+    let line = wider_line(policy, address, path, verdict);
+    line_note(alloc, policy.origins(), line)
 }
 
 /// Says by which line mountd(8) grants, if it does.
-fn line_note(alloc: Global, line: Option<u32>) -> Result<String, AllocError>
-    ensures { IfOk result (λ note. string_bytes note ≡ spec.wider_note line) }
+fn line_note(alloc: Global, origins: &[Origin], line: Option<u32>) -> Result<String, AllocError>
+    ensures { IfOk result (λ note. string_bytes note ≡ spec.wider_note origins.now line) }
 {
     match line {
         Some(line) => {
+            let name = LineName { origins, line };
             format!(in alloc;
-                "exportdesk: mountd(8) grants this by line {line}, which is not selected here: --mountd decides by its rule\n"
+                "exportdesk: mountd(8) grants this by line {name}, which is not selected here: --mountd decides by its rule\n"
             )
         }
         None => Ok(String::new(alloc)),

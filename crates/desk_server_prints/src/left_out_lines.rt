@@ -8,6 +8,7 @@ ghost use Rattle.desk_server_prints.specs.LeftOutNote.{AreRepeatedIn, TellsLeftO
 ghost use Rattle.desk_server_prints.specs.PrivateLeftOut.{AddsNote};
 
 use desk_index::Index;
+use desk_origins::{LineName, Origin};
 use desk_policy::PolicyView;
 use desk_server::{RepeatedClient, repeated_clients};
 use desk_tables::Mount;
@@ -39,7 +40,12 @@ fn push_files(
 {
     for mount in mounts {
         let found = repeated_at(alloc, index, &mount.path)?;
-        push_first(&mount.path, found.as_slice(), note)?;
+        push_first(
+            index.policy().origins(),
+            &mount.path,
+            found.as_slice(),
+            note,
+        )?;
         drop(found);
     }
     Ok(())
@@ -60,26 +66,38 @@ fn repeated_at(
 }
 
 /// Adds the first of these lines of the file system of a mount point, if there is one.
-fn push_first(mount: &Path, found: &[RepeatedClient], note: &mut String) -> Result<(), AllocError>
-    ensures { OnOk result (string_bytes note.new ≡ string_bytes note.old ++ spec.first_note mount.now found.now) }
+fn push_first(
+    origins: &[Origin],
+    mount: &Path,
+    found: &[RepeatedClient],
+    note: &mut String,
+) -> Result<(), AllocError>
+    ensures { OnOk result (string_bytes note.new ≡ string_bytes note.old ++ spec.first_note origins.now mount.now found.now) }
 {
     match found.first() {
-        Some(one) => push_line(mount, *one, note),
+        Some(one) => push_line(origins, mount, *one, note),
         None => Ok(()),
     }
 }
 
 /// Adds a line of the file system of a mount point that mountd(8) may leave out.
-fn push_line(mount: &Path, one: RepeatedClient, note: &mut String) -> Result<(), AllocError>
-    ensures { OnOk result (string_bytes note.new ≡ string_bytes note.old ++ spec.line_note mount.now one) }
+fn push_line(
+    origins: &[Origin],
+    mount: &Path,
+    one: RepeatedClient,
+    note: &mut String,
+) -> Result<(), AllocError>
+    ensures { OnOk result (string_bytes note.new ≡ string_bytes note.old ++ spec.line_note origins.now mount.now one) }
 {
-    push_left_out(mount, one.line, note)?;
-    push_client(one.other, one.address, note)
+    let line = one.line;
+    push_left_out(mount, LineName { origins, line }, note)?;
+    let line = one.other;
+    push_client(LineName { origins, line }, one.address, note)
 }
 
 /// Adds that mountd(8) may leave out a line of the file system of a mount point.
-fn push_left_out(mount: &Path, line: u32, note: &mut String) -> Result<(), AllocError>
-    ensures { OnOk result (string_bytes note.new ≡ string_bytes note.old ++ spec.left_out_text mount.now line) }
+fn push_left_out(mount: &Path, line: LineName<'_>, note: &mut String) -> Result<(), AllocError>
+    ensures { OnOk result (string_bytes note.new ≡ string_bytes note.old ++ spec.left_out_text line.entry.origins.now mount.now line.entry.line) }
 {
     write!(
         note,
@@ -89,8 +107,8 @@ fn push_left_out(mount: &Path, line: u32, note: &mut String) -> Result<(), Alloc
 }
 
 /// Adds that a line has a client, and ends the line.
-fn push_client(line: u32, address: Addr, note: &mut String) -> Result<(), AllocError>
-    ensures { OnOk result (string_bytes note.new ≡ string_bytes note.old ++ spec.client_text line address) }
+fn push_client(line: LineName<'_>, address: Addr, note: &mut String) -> Result<(), AllocError>
+    ensures { OnOk result (string_bytes note.new ≡ string_bytes note.old ++ spec.client_text line.entry.origins.now line.entry.line address) }
 {
     write!(note, ": line {line} has {address}")?;
     note.push('\n')

@@ -11,6 +11,7 @@ ghost use Rattle.desk_server_prints.specs.PrivateListing.{IsFirstOf, IsFoundAt};
 ghost use Rattle.desk_server_prints.specs.GrantingLine.{granting_line};
 
 use desk_index::Index;
+use desk_origins::{LineName, Origin};
 use desk_policy::{PolicyView, Verdict};
 use desk_server::server_decide;
 use desk_text::{Addr, AddrSet, Path};
@@ -49,18 +50,26 @@ pub fn first_wider_note(alloc: Global, index: &Index, path: &Path) -> Result<Str
 {
     let found = first_wider(alloc, index, path)?;
     let mut note = String::new(alloc);
-    push_client(found, &mut note)?;
+    push_client(index.policy().origins(), found, &mut note)?;
     Ok(note)
 }
 
 /// Adds that mountd(8) grants it to this client, if there is one.
-fn push_client(found: Option<WiderClient>, note: &mut String) -> Result<(), AllocError>
-    ensures { OnOk result (string_bytes note.new ≡ string_bytes note.old ++ spec.first_note found) }
+fn push_client(
+    origins: &[Origin],
+    found: Option<WiderClient>,
+    note: &mut String,
+) -> Result<(), AllocError>
+    ensures { OnOk result (string_bytes note.new ≡ string_bytes note.old ++ spec.first_note origins.now found) }
 {
     match found {
         Some(client) => {
             push_address(client.address, note)?;
-            push_line(client.line, note)
+            let line = LineName {
+                origins,
+                line: client.line,
+            };
+            push_line(line, note)
         }
         None => Ok(()),
     }
@@ -74,8 +83,8 @@ fn push_address(address: Addr, note: &mut String) -> Result<(), AllocError>
 }
 
 /// Adds by which line it grants this, and ends the line.
-fn push_line(line: u32, note: &mut String) -> Result<(), AllocError>
-    ensures { OnOk result (string_bytes note.new ≡ string_bytes note.old ++ spec.line_text line) }
+fn push_line(line: LineName<'_>, note: &mut String) -> Result<(), AllocError>
+    ensures { OnOk result (string_bytes note.new ≡ string_bytes note.old ++ spec.line_text line.entry.origins.now line.entry.line) }
 {
     write!(
         note,

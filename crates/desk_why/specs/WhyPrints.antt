@@ -10,6 +10,8 @@ use Rattle.desk_tables.specs.declared.hosts.HostRow.{HostRow}
 use Rattle.desk_netgroup.specs.declared.group_line.GroupLine.{GroupLine}
 use Rattle.desk_exports.specs.declared.entry.Clients.{Clients}
 use Rattle.desk_exports.specs.declared.entry.Clients.TheVariants.{Hosts, Net, Net6, World}
+use Rattle.desk_origins.specs.Origins.{line_name}
+use Rattle.desk_origins.specs.declared.origins.Origin.{Origin}
 use Rattle.desk_policy.specs.Names.{first_name_for}
 use Rattle.desk_policy.specs.Policy.{Content, rows_of}
 use Rattle.desk_policy.specs.Prints.{mount_text}
@@ -42,29 +44,29 @@ match_text netgroups hosts address World = codes "everybody"
 
 -- A line decides if the verdict names it; any other of the greatest weight is as heavy as that one, and the rest are outweighed by
 -- it.
-abbrev pub status_text : ℕ → ℕ → Bool → List ℕ
-status_text named line heavy =
+abbrev pub status_text : List Origin → ℕ → ℕ → Bool → List ℕ
+status_text origins named line heavy =
     if line == named then codes "decides"
-    else if heavy then codes "as heavy as line " ++ decimal named
-    else codes "outweighed by line " ++ decimal named
+    else if heavy then codes "as heavy as line " ++ line_name origins named
+    else codes "outweighed by line " ++ line_name origins named
 
 -- whether a line lists the path
 abbrev pub lists_text : Bool → List ℕ
 lists_text listed = if listed then codes "lists" else codes "does not list"
 
--- the pieces of a line of text, as `line 1 name friends: decides, does not list /u2/x`
-abbrev pub line_text : ℕ → List ℕ → List ℕ → List ℕ → List ℕ → List ℕ
-line_text line match status listing path = codes "line " ++ decimal line ++ codes " " ++ match ++ codes ": " ++ status ++ codes ", " ++ listing ++ codes " " ++ path ++ codes "\n"
+-- the pieces of a line of text, the first of which names the line, as `line 1 name friends: decides, does not list /u2/x`
+abbrev pub line_text : List ℕ → List ℕ → List ℕ → List ℕ → List ℕ → List ℕ
+line_text line match status listing path = codes "line " ++ line ++ codes " " ++ match ++ codes ": " ++ status ++ codes ", " ++ listing ++ codes " " ++ path ++ codes "\n"
 
 -- what is printed of a line that matches
-abbrev pub row_line : List GroupLine → List HostRow → ℕ → List (List ℕ) → ℕ → Option ℕ → Row → List ℕ
-row_line netgroups hosts address path named greatest row =
-    line_text row.entry.line (match_text netgroups hosts address row.entry.clients) (status_text named row.entry.line (is_as_heavy greatest (weight_of row address)))
+abbrev pub row_line : List GroupLine → List HostRow → ℕ → List (List ℕ) → List Origin → ℕ → Option ℕ → Row → List ℕ
+row_line netgroups hosts address path origins named greatest row =
+    line_text (line_name origins row.entry.line) (match_text netgroups hosts address row.entry.clients) (status_text origins named row.entry.line (is_as_heavy greatest (weight_of row address)))
     (lists_text (lists_here path row)) (path_text path)
 
 -- a line for each of these lines
-abbrev pub row_lines : List GroupLine → List HostRow → ℕ → List (List ℕ) → ℕ → List Row → List ℕ
-row_lines netgroups hosts address path named rows = flat_map (row_line netgroups hosts address path named (first_weight rows address)) rows
+abbrev pub row_lines : List GroupLine → List HostRow → ℕ → List (List ℕ) → List Origin → ℕ → List Row → List ℕ
+row_lines netgroups hosts address path origins named rows = flat_map (row_line netgroups hosts address path origins named (first_weight rows address)) rows
 
 -- how many lines are for nobody, if there are some
 abbrev pub nobody_text : ℕ → List ℕ
@@ -80,15 +82,15 @@ abbrev pub mounts_line : List ℕ → ℕ → List ℕ
 mounts_line path mounts = codes "mount points above " ++ path ++ codes ": 0 of " ++ decimal mounts ++ codes "\n"
 
 -- what is printed of the lines of a file system
-abbrev pub lines_text : List GroupLine → List HostRow → ℕ → List (List ℕ) → ℕ → List ℕ → List Row → List ℕ
-lines_text netgroups hosts address path named mount rows =
-    row_lines netgroups hosts address path named (matching rows address) ++ count_line mount address (length (matching rows address)) (length rows) (count_by is_for_nobody rows)
+abbrev pub lines_text : List GroupLine → List HostRow → ℕ → List (List ℕ) → List Origin → ℕ → List ℕ → List Row → List ℕ
+lines_text netgroups hosts address path origins named mount rows =
+    row_lines netgroups hosts address path origins named (matching rows address) ++ count_line mount address (length (matching rows address)) (length rows) (count_by is_for_nobody rows)
 
 -- what is printed of the file system of a path, or that there is none
 abbrev pub why_in : List GroupLine → List HostRow → Content → ℕ → List (List ℕ) → Option ℕ → List ℕ
 why_in netgroups hosts content address path None = mounts_line (path_text path) (length content.table)
 why_in netgroups hosts content address path (Some fs) =
-    lines_text netgroups hosts address path (line_named (verdict_of content address path)) (mount_text content fs) (rows_of content fs)
+    lines_text netgroups hosts address path content.origins (line_named (verdict_of content address path)) (mount_text content fs) (rows_of content fs)
 
 -- What is printed below the verdict for an address and a path: each line of the path's file system that matches the address, heaviest
 -- first, and how many there are; or that no mount point is above the path.

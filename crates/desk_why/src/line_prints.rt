@@ -4,12 +4,14 @@ ghost use Rattle.std.specs.Prelude.{◌≡◌, ◌++◌, ◌∷◌, IfOk, OnOk, 
 ghost use Rattle.std.specs.Fmt.{decimal};
 ghost use Rattle.std.specs.String.{string_bytes};
 ghost use Rattle.desk_text.specs.Address.{addr_text, number_of};
+ghost use Rattle.desk_origins.specs.Origins.{line_name};
 ghost use Rattle.desk_policy.specs.Names.{first_name_for};
 ghost use Rattle.desk_why.specs.WhyPrints as spec;
 
 use crate::matches::is_as_heavy;
 use desk_exports::{Clients, Names};
 use desk_netgroup::Netgroups;
+use desk_origins::LineName;
 use desk_policy::{Row, first_name_for, weight_of};
 use desk_tables::Hosts;
 use desk_text::{Addr, Net, Path};
@@ -25,24 +27,28 @@ pub struct Asked<'a> {
     pub path: &'a Path,
 }
 
-/// Writes a line that matches, given the number of the line that the verdict names, and the greatest weight.
+/// Writes a line that matches, given the line that the verdict names, and the greatest weight.
 pub(crate) fn push_line(
     alloc: Global,
     asked: Asked<'_>,
-    named: u32,
+    named: LineName<'_>,
     greatest: Option<u8>,
     row: &Row,
     text: &mut String,
 ) -> Result<(), AllocError>
     ensures { OnOk result (string_bytes text.new
-        ≡ string_bytes text.old ++ spec.row_line asked.entry.netgroups.now asked.entry.hosts.now (number_of asked.entry.address) asked.entry.path.now named greatest row.now) }
+        ≡ string_bytes text.old ++ spec.row_line asked.entry.netgroups.now asked.entry.hosts.now (number_of asked.entry.address) asked.entry.path.now named.entry.origins.now named.entry.line greatest row.now) }
 {
     let matched = match_text(alloc, asked, &row.entry.clients)?;
     let heavy = is_as_heavy(greatest, weight_of(row, asked.address));
     let status = status_text(alloc, named, row.entry.line, heavy)?;
+    let own = LineName {
+        origins: named.origins,
+        line: row.entry.line,
+    };
     let line = line_text(
         alloc,
-        row.entry.line,
+        own,
         matched.as_str(),
         status.as_str(),
         lists_text(row.lists_here(asked.path)),
@@ -55,13 +61,13 @@ pub(crate) fn push_line(
 /// Puts the pieces of a line together.
 fn line_text(
     alloc: Global,
-    line: u32,
+    line: LineName<'_>,
     matched: &str,
     status: &str,
     listing: &str,
     path: &str,
 ) -> Result<String, AllocError>
-    ensures { IfOk result (λ text. string_bytes text ≡ spec.line_text line matched.now status.now listing.now path.now) }
+    ensures { IfOk result (λ text. string_bytes text ≡ spec.line_text (line_name line.entry.origins.now line.entry.line) matched.now status.now listing.now path.now) }
 {
     format!(in alloc; "line {line} {matched}: {status}, {listing} {path}\n")
 }
@@ -101,11 +107,16 @@ fn net_text(alloc: Global, net: Net) -> Result<String, AllocError>
     format!(in alloc; "network {first}/{prefix}")
 }
 
-/// Writes whether a line decides, by its number and that of the line that the verdict names.
-fn status_text(alloc: Global, named: u32, line: u32, heavy: bool) -> Result<String, AllocError>
-    ensures { IfOk result (λ text. string_bytes text ≡ spec.status_text named line heavy) }
+/// Writes whether a line decides, by its number and the line that the verdict names.
+fn status_text(
+    alloc: Global,
+    named: LineName<'_>,
+    line: u32,
+    heavy: bool,
+) -> Result<String, AllocError>
+    ensures { IfOk result (λ text. string_bytes text ≡ spec.status_text named.entry.origins.now named.entry.line line heavy) }
 {
-    if line == named {
+    if line == named.line {
         String::from_str(alloc, "decides")
     } else if heavy {
         format!(in alloc; "as heavy as line {named}")

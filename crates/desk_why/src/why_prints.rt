@@ -10,7 +10,8 @@ ghost use Rattle.desk_why.specs.WhyPrints as spec;
 
 use crate::line_prints::{Asked, push_line};
 use crate::matches::{first_weight, is_for_nobody, matching};
-use desk_policy::{Denial, PolicyView, Row, Verdict, mount_text};
+use desk_origins::LineName;
+use desk_policy::{Denial, PolicyView, Row, Verdict, mount_text, name_of};
 use desk_text::Addr;
 use std::alloc::{AllocError, Global};
 
@@ -31,7 +32,8 @@ pub fn why_text<V: PolicyView>(
         Some(fs) => {
             let verdict = view.decide(asked.address, asked.path);
             let mount = mount_text(policy, fs);
-            lines_text(alloc, asked, line_named(&verdict), mount, policy.rows(fs))
+            let named = name_of(policy, line_named(&verdict));
+            lines_text(alloc, asked, named, mount, policy.rows(fs))
         }
     }
 }
@@ -47,16 +49,16 @@ fn line_named(verdict: &Verdict<'_>) -> u32
     }
 }
 
-/// Writes the lines of a file system, of which the verdict names the one of this number.
+/// Writes the lines of a file system, of which the verdict names this one.
 fn lines_text(
     alloc: Global,
     asked: Asked<'_>,
-    named: u32,
+    named: LineName<'_>,
     mount: &str,
     rows: &[Row],
 ) -> Result<String, AllocError>
     ensures { IfOk result (λ text. string_bytes text
-        ≡ spec.lines_text asked.entry.netgroups.now asked.entry.hosts.now (number_of asked.entry.address) asked.entry.path.now named mount.now rows.now) }
+        ≡ spec.lines_text asked.entry.netgroups.now asked.entry.hosts.now (number_of asked.entry.address) asked.entry.path.now named.entry.origins.now named.entry.line mount.now rows.now) }
 {
     let found = matching(alloc, rows, asked.address)?;
     let count = count_line(alloc, mount, asked.address, found.len(), rows)?;
@@ -70,12 +72,12 @@ fn lines_text(
 fn push_lines(
     alloc: Global,
     asked: Asked<'_>,
-    named: u32,
+    named: LineName<'_>,
     rows: &[&Row],
     text: &mut String,
 ) -> Result<(), AllocError>
     ensures { OnOk result (string_bytes text.new
-        ≡ string_bytes text.old ++ spec.row_lines asked.entry.netgroups.now asked.entry.hosts.now (number_of asked.entry.address) asked.entry.path.now named (map (λ row. row.now) rows.now)) }
+        ≡ string_bytes text.old ++ spec.row_lines asked.entry.netgroups.now asked.entry.hosts.now (number_of asked.entry.address) asked.entry.path.now named.entry.origins.now named.entry.line (map (λ row. row.now) rows.now)) }
 {
     let greatest = first_weight(rows, asked.address);
     for row in rows {

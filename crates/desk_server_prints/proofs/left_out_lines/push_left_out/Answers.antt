@@ -8,7 +8,7 @@ use Rattle.desk_server_prints.proofs.left_out_lines.push_left_out.Goals as goal
 
 pub returns : goal.returns
 returns c =
-    let words = may_leave_out c.args.line in
+    let words = may_leave_out c.args.line.origins.now c.args.line.line in
     let mount = path_text c.args.mount.now in
     let behind = string_bytes c.write.new.self in
     on_ok c.push_str.result

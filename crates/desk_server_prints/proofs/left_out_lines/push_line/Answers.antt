@@ -7,6 +7,6 @@ use Rattle.desk_server_prints.proofs.left_out_lines.push_line.Goals as goal
 
 pub returns : goal.returns
 returns c =
-    let words = left_out_text c.args.mount.now c.args.one.line in
-    let client = client_text c.args.one.other c.args.one.address in
+    let words = left_out_text c.args.origins.now c.args.mount.now c.args.one.line in
+    let client = client_text c.args.origins.now c.args.one.other c.args.one.address in
     on_ok c.push_client.result (λ e. e ∙ ap (λ (t : List ℕ). t ++ client) c.in_ok-push_left_out.ensures ∙ append_assoc (string_bytes c.args.note.now) words client) c.push_client.ensures

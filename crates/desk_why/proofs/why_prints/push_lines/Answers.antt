@@ -17,5 +17,5 @@ loop-row-preserved c =
     let below : i < length items = c.loop-row-test.true in
     let within : i < length rows = omega arith in
     writes rows i row within (ap (λ row. row.now) c.row-item.is ∙ sym (get_or-map (λ row. row.now) items i c.row-item.result row below))
-    (row_line asked.netgroups.now asked.hosts.now (number_of asked.address) asked.path.now c.args.named c.first_weight-greatest.result)
+    (row_line asked.netgroups.now asked.hosts.now (number_of asked.address) asked.path.now c.args.named.origins.now c.args.named.line c.first_weight-greatest.result)
     (string_bytes c.args.text.now) (string_bytes c.loop-row.text) (string_bytes c.push_line.new.text) c.loop-row.invariant c.in_ok-push_line.ensures

@@ -8,4 +8,4 @@ use Rattle.desk_why.proofs.why_prints.push_lines.Given as goal
 
 abbrev pub invariant-loop-row : goal.invariant-loop-row
 invariant-loop-row l =
-    string_bytes l.text ≡ string_bytes l.initial.text ++ flat_map (row_line l.asked.netgroups.now l.asked.hosts.now (number_of l.asked.address) l.asked.path.now l.named l.greatest) (take l.row-index (map (λ row. row.now) l.rows))
+    string_bytes l.text ≡ string_bytes l.initial.text ++ flat_map (row_line l.asked.netgroups.now l.asked.hosts.now (number_of l.asked.address) l.asked.path.now l.named.origins.now l.named.line l.greatest) (take l.row-index (map (λ row. row.now) l.rows))

@@ -7,6 +7,7 @@ use Rattle.desk_tables.specs.declared.filesystems.FsId.{FsId}
 use Rattle.desk_tables.specs.declared.hosts.HostRow.{HostRow}
 use Rattle.desk_netgroup.specs.declared.group_line.GroupLine.{GroupLine}
 use Rattle.desk_exports.specs.declared.entry.Entry.{Entry}
+use Rattle.desk_origins.specs.declared.origins.Origin.{Origin}
 use Rattle.desk_policy.specs.declared.row.Row.{Row}
 use Rattle.desk_policy.specs.Policy.{AreAscending, Content, content_of, rows_placed}
 use Rattle.desk_policy.specs.declared.warning.Warning.{Warning}
@@ -78,8 +79,11 @@ invariant_of-result c =
 pub returns : goal.returns
 unfolding content_of
 returns c =
-    let P : List (List Row) → List Warning → Content = λ rows warnings. record { table = c.args.filesystems; rows = rows; warnings = warnings } in
+    let P : List (List Row) → List Warning → List Origin → Content = λ rows warnings origins. record { table = c.args.filesystems; rows = rows; warnings = warnings; origins = origins } in
     let none = nil_from_length c.loop-fs.fs-iterator.rest.items (sym c.loop-fs.fs-iterator.rest.ok.0 ∙ c.in-None.ensures.steps.0) in
     let keeps = c.loop-fs.invariant in
     let all = all_lists c.args.netgroups.now c.args.hosts.now c.args.entries c.loop-fs.yielded c.loop-fs.fs-iterator.rest.items c.loop-fs.rows.items (length c.args.filesystems) keeps.entries none keeps.lists in
-    ap (λ rows. P rows c.new-warnings.result) all ∙ ap (P _) c.new-warnings.ensures
+    let rows = map (rows_placed c.args.netgroups.now c.args.hosts.now c.args.entries) (range_with_len 0 (length c.args.filesystems)) in
+    ap (λ lists. P lists c.new-warnings.result c.new-origins.result) all
+    ∙ ap (λ warnings. P rows warnings c.new-origins.result) c.new-warnings.ensures
+    ∙ ap (P rows []) c.new-origins.ensures
