@@ -20,3 +20,7 @@ pub five : (start a b c d e one both three_of four_of all : List ℕ) → one �
     → all ≡ start ++ ((((a ++ b) ++ c) ++ d) ++ e)
 five start a b c d e one both three_of four_of all p q r s t =
     three start ((a ++ b) ++ c) d e three_of four_of all (three start a b c one both three_of p q r) s t
+
+-- a place, whose second piece is put together before it is added, and a line behind it
+pub placed : (start a b c d e one both all : List ℕ) → one ≡ start ++ a → both ≡ one ++ ((b ++ c) ++ d) → all ≡ both ++ e → all ≡ start ++ ((((a ++ b) ++ c) ++ d) ++ e)
+placed start a b c d e one both all p q r = r ∙ ap (λ t. t ++ e) (q ∙ ap (λ t. t ++ ((b ++ c) ++ d)) p) ∙ simp append_assoc

@@ -11,11 +11,13 @@ use Rattle.desk_text.specs.Address as addresses
 use Rattle.desk_text.specs.Address.{addr_text}
 use Rattle.desk_text.specs.Path.{path_text}
 use Rattle.desk_text.specs.declared.address.Addr.{Addr}
-use Rattle.desk_findings.specs.Finding.{kind_word, line_at, name_of, number_of, slice_at}
+use Rattle.desk_origins.specs.Origins.{origin_of, own_number}
+use Rattle.desk_origins.specs.declared.origins.Origin.{Origin}
+use Rattle.desk_findings.specs.Finding.{kind_word, name_of, number_of, slice_at}
 use Rattle.desk_findings.specs.declared.finding.Finding.{Finding}
 use Rattle.desk_findings.specs.declared.finding.Matter.{Matter}
 use Rattle.desk_findings.specs.declared.finding.Matter.TheVariants as matter
-use Rattle.desk_check.specs.FindingPrints.{message_of, other_of}
+use Rattle.desk_check.specs.FindingPrints.{message_of, number_in_file, other_of, path_of}
 
 -- the address of a contradiction or a remark
 abbrev pub address_of : Matter → Option Addr
@@ -25,9 +27,18 @@ address_of (matter.Warning kind) = None
 address_of (matter.Remark remark example) = option_map (λ shown. shown.address) example
 
 -- a member for another line, for an address, and for a directory, if there is one, before these
-abbrev pub with_other : Option ℕ → Members → Members
-with_other None members = members
-with_other (Some line) members = member (codes "other") (number (unsigned line)) members
+abbrev pub with_other : List Origin → Option ℕ → Members → Members
+with_other origins None members = members
+with_other origins (Some line) members = member (codes "other") (number (unsigned (own_number origins line))) members
+
+-- a member for the path of its file, if several texts were read as one, before these
+abbrev pub with_path_of : Option Origin → Members → Members
+with_path_of None members = members
+with_path_of (Some origin) members = member (codes "other_path") (string origin.path) members
+
+abbrev pub with_other_path : List Origin → Option ℕ → Members → Members
+with_other_path origins None members = members
+with_other_path origins (Some line) members = with_path_of (origin_of origins line) members
 
 abbrev pub with_address : Option Addr → Members → Members
 with_address None members = members
@@ -43,13 +54,14 @@ object_of address other finding text = object (with_address address
     (member (codes "column") (number (unsigned finding.column))
     (with_directory finding.directory
     (member (codes "kind") (string (kind_word finding.matter))
-    (member (codes "line") (number (unsigned (line_at finding.place)))
+    (member (codes "line") (number (unsigned (number_in_file finding)))
     (member (codes "name") (string (name_of finding.matter))
-    (with_other other
-    (member (codes "path") (string finding.path.now)
+    (with_other finding.origins.now other
+    (with_other_path finding.origins.now other
+    (member (codes "path") (string (path_of finding))
     (member (codes "rule") (number (unsigned (number_of finding.matter)))
     (member (codes "text") (string text)
-    (member (codes "word") (string (slice_at finding.source.now finding.place)) no_members)))))))))))
+    (member (codes "word") (string (slice_at finding.source.now finding.place)) no_members))))))))))))
 
 abbrev pub value_of : Finding → Data
 value_of finding = object_of (address_of finding.matter) (other_of finding.matter) finding (message_of finding)

@@ -17,6 +17,8 @@ use Rattle.desk_remarks.specs.declared.remark.Example.{Example}
 use Rattle.desk_remarks.specs.declared.remark.OtherLine.{OtherLine}
 use Rattle.desk_remarks.specs.declared.remark.OtherLine.TheVariants.{First, Grants, Taken}
 use Rattle.desk_remarks.specs.declared.remark.Remark.{Remark}
+use Rattle.desk_origins.specs.Origins.{line_name, own_number, own_path}
+use Rattle.desk_origins.specs.declared.origins.Origin.{Origin}
 use Rattle.desk_findings.specs.Finding.{is_fault, kind_word, line_at, name_of, number_of, slice_at}
 use Rattle.desk_findings.specs.declared.finding.Finding.{Finding}
 use Rattle.desk_findings.specs.declared.finding.Matter.{Matter}
@@ -54,13 +56,13 @@ subject source None = codes "the file"
 subject source (Some place) = codes "\"" ++ shown_word (slice_at source (Some place)) ++ codes "\""
 
 -- the earlier line of a netgroup, if there is one
-abbrev pub other_text : Option ℕ → List ℕ
-other_text None = []
-other_text (Some line) = codes ": line " ++ decimal line
+abbrev pub other_text : List Origin → Option ℕ → List ℕ
+other_text origins None = []
+other_text origins (Some line) = codes ": line " ++ line_name origins line
 
 -- what shows a remark: a line, and an address at which it is the first that is selected
-abbrev pub shown_by : ℕ → Addr → List ℕ
-shown_by line address = codes ", beginning with line " ++ decimal line ++ codes " for " ++ addr_text (addresses.number_of address)
+abbrev pub shown_by : List Origin → ℕ → Addr → List ℕ
+shown_by origins line address = codes ", beginning with line " ++ line_name origins line ++ codes " for " ++ addr_text (addresses.number_of address)
 
 -- what the server lets a client mount, by its directory or by -alldirs alone; and what to write if that is meant
 abbrev pub granted_text : Option (List (List ℕ)) → List ℕ
@@ -72,44 +74,44 @@ remedy_of None = codes "write -alldirs"
 remedy_of (Some directory) = codes "list the directory"
 
 -- by which line that is, and what to do about it
-abbrev pub remedy_text : ℕ → List ℕ → List ℕ
-remedy_text line remedy =
-    codes " by line " ++ decimal line ++ codes ": " ++ remedy ++ codes " here as well if that is meant, else keep the client out of the network of line " ++ decimal line
+abbrev pub remedy_text : List Origin → ℕ → List ℕ → List ℕ
+remedy_text origins line remedy =
+    codes " by line " ++ line_name origins line ++ codes ": " ++ remedy ++ codes " here as well if that is meant, else keep the client out of the network of line " ++ line_name origins line
     ++ codes ", or give it a file system of its own"
 
 -- the client of this address may mount more by this line
-abbrev pub wider_text : ℕ → Addr → Option (List (List ℕ)) → List ℕ
-wider_text line address directory =
-    codes "mountd(8) also lets " ++ addr_text (addresses.number_of address) ++ codes " mount " ++ granted_text directory ++ remedy_text line (remedy_of directory)
+abbrev pub wider_text : List Origin → ℕ → Addr → Option (List (List ℕ)) → List ℕ
+wider_text origins line address directory =
+    codes "mountd(8) also lets " ++ addr_text (addresses.number_of address) ++ codes " mount " ++ granted_text directory ++ remedy_text origins line (remedy_of directory)
 
 -- mountd(8) may leave a line out because of this earlier one
-abbrev pub taken_text : ℕ → List ℕ
-taken_text line = codes "mountd(8) takes one line for a client and a file system, and may leave this one out, since line " ++ decimal line ++ codes " has "
+abbrev pub taken_text : List Origin → ℕ → List ℕ
+taken_text origins line = codes "mountd(8) takes one line for a client and a file system, and may leave this one out, since line " ++ line_name origins line ++ codes " has "
 
 -- it has a client of this address
-abbrev pub repeated_text : ℕ → Addr → List ℕ
-repeated_text line address = taken_text line ++ addr_text (addresses.number_of address) ++ codes ": write the directories on one line"
+abbrev pub repeated_text : List Origin → ℕ → Addr → List ℕ
+repeated_text origins line address = taken_text origins line ++ addr_text (addresses.number_of address) ++ codes ": write the directories on one line"
 
 -- what is said of a line, with the line, the address and the directory that show it
-abbrev pub sentence_with : OtherLine → List ℕ → ℕ → Addr → Option (List (List ℕ)) → List ℕ
-sentence_with First sentence line address directory = sentence ++ shown_by line address
-sentence_with Grants sentence line address directory = wider_text line address directory
-sentence_with Taken sentence line address directory = repeated_text line address
+abbrev pub sentence_with : List Origin → OtherLine → List ℕ → ℕ → Addr → Option (List (List ℕ)) → List ℕ
+sentence_with origins First sentence line address directory = sentence ++ shown_by origins line address
+sentence_with origins Grants sentence line address directory = wider_text origins line address directory
+sentence_with origins Taken sentence line address directory = repeated_text origins line address
 
-abbrev pub remark_with : Remark → ℕ → Addr → Option (List (List ℕ)) → List ℕ
-remark_with said line address directory = sentence_with (other_line_of said) (remark_sentence said) line address directory
+abbrev pub remark_with : List Origin → Remark → ℕ → Addr → Option (List (List ℕ)) → List ℕ
+remark_with origins said line address directory = sentence_with origins (other_line_of said) (remark_sentence said) line address directory
 
 -- what is said of a line, with what shows it, if anything does
-abbrev pub remark_text : Remark → Option Example → Option (List (List ℕ)) → List ℕ
-remark_text said None directory = remark_sentence said
-remark_text said (Some shown) directory = remark_with said shown.line shown.address directory
+abbrev pub remark_text : List Origin → Remark → Option Example → Option (List (List ℕ)) → List ℕ
+remark_text origins said None directory = remark_sentence said
+remark_text origins said (Some shown) directory = remark_with origins said shown.line shown.address directory
 
 -- the sentence, as `"-maprot" is not an option of exports(5)`
-abbrev pub sentence : List ℕ → Option Place → Matter → Option (List (List ℕ)) → List ℕ
-sentence source place (matter.Fault rule other) directory = subject source place ++ codes " " ++ rule_sentence rule ++ other_text other
-sentence source place (matter.Contradiction other address) directory = codes "line " ++ decimal other ++ codes " has other terms for " ++ addr_text (addresses.number_of address)
-sentence source place (matter.Warning kind) directory = subject source place ++ codes " " ++ kind_sentence kind
-sentence source place (matter.Remark said example) directory = remark_text said example directory
+abbrev pub sentence : List Origin → List ℕ → Option Place → Matter → Option (List (List ℕ)) → List ℕ
+sentence origins source place (matter.Fault rule other) directory = subject source place ++ codes " " ++ rule_sentence rule ++ other_text origins other
+sentence origins source place (matter.Contradiction other address) directory = codes "line " ++ line_name origins other ++ codes " has other terms for " ++ addr_text (addresses.number_of address)
+sentence origins source place (matter.Warning kind) directory = subject source place ++ codes " " ++ kind_sentence kind
+sentence origins source place (matter.Remark said example) directory = remark_text origins said example directory
 
 -- a hint, if there is one
 abbrev pub hint_text : Option (List ℕ) → List ℕ
@@ -117,16 +119,23 @@ hint_text None = []
 hint_text (Some words) = codes "; " ++ words
 
 -- the sentence with its hint
-abbrev pub message : List ℕ → Option Place → Matter → Option (List (List ℕ)) → List ℕ
-message source place matter directory = sentence source place matter directory ++ hint_text (hint matter (slice_at source place))
+abbrev pub message : List Origin → List ℕ → Option Place → Matter → Option (List (List ℕ)) → List ℕ
+message origins source place matter directory = sentence origins source place matter directory ++ hint_text (hint matter (slice_at source place))
 
 -- the message of a finding
 abbrev pub message_of : Finding → List ℕ
-message_of finding = message finding.source.now finding.place finding.matter finding.directory
+message_of finding = message finding.origins.now finding.source.now finding.place finding.matter finding.directory
+
+-- the path of the file that has the line of a finding, and the number of the line there
+abbrev pub path_of : Finding → List ℕ
+path_of finding = own_path finding.origins.now finding.path.now (line_at finding.place)
+
+abbrev pub number_in_file : Finding → ℕ
+number_in_file finding = own_number finding.origins.now (line_at finding.place)
 
 -- where a finding is, as `exports:12:6: `
 abbrev pub position_text : Finding → List ℕ
-position_text finding = shown_text finding.path.now ++ codes ":" ++ decimal (line_at finding.place) ++ codes ":" ++ decimal finding.column ++ codes ": "
+position_text finding = shown_text (path_of finding) ++ codes ":" ++ decimal (number_in_file finding) ++ codes ":" ++ decimal finding.column ++ codes ": "
 
 -- what it is, as `fault 5 UnknownOption: `
 abbrev pub matter_text : Matter → List ℕ
@@ -170,17 +179,17 @@ other_of (matter.Warning kind) = None
 other_of (matter.Remark said example) = option_map (λ shown. shown.line) example
 
 -- a line that is shown below the marked one: its place, as `exports:4:1: the other line`, and the line
-abbrev pub other_line_text : List ℕ → ℕ → List ℕ → List ℕ
-other_line_text path number line = shown_text path ++ codes ":" ++ decimal number ++ codes ":1: the other line\n" ++ excerpt_text line (excerpt line 0)
+abbrev pub other_line_text : List Origin → List ℕ → ℕ → List ℕ → List ℕ
+other_line_text origins path number line = shown_text (own_path origins path number) ++ codes ":" ++ decimal (own_number origins number) ++ codes ":1: the other line\n" ++ excerpt_text line (excerpt line 0)
 
 -- the other line, if it is shown
-abbrev pub beside_by : List ℕ → Option ℕ → Option (List ℕ) → List ℕ
-beside_by path None line = []
-beside_by path (Some number) None = []
-beside_by path (Some number) (Some line) = other_line_text path number line
+abbrev pub beside_by : List Origin → List ℕ → Option ℕ → Option (List ℕ) → List ℕ
+beside_by origins path None line = []
+beside_by origins path (Some number) None = []
+beside_by origins path (Some number) (Some line) = other_line_text origins path number line
 
 abbrev pub beside_text : Finding → List ℕ
-beside_text finding = beside_by finding.path.now (other_of finding.matter) (option_copied finding.beside)
+beside_text finding = beside_by finding.origins.now finding.path.now (other_of finding.matter) (option_copied finding.beside)
 
 -- the lines of a finding: the marked one, and the other one
 abbrev pub lines_text : Finding → List ℕ

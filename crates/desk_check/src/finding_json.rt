@@ -13,10 +13,11 @@ ghost use Rattle.serde_json.specs.Written.{compact_text};
 ghost use Rattle.desk_findings.specs.Finding.{HasSlice, HaveSlices};
 ghost use Rattle.desk_check.specs.FindingJson as spec;
 ghost use Rattle.desk_check.specs.FindingPrints.{message_of};
-ghost use Rattle.desk_check.specs.PrivateFindingJson.{put_address, put_directory, put_other};
+ghost use Rattle.desk_check.specs.PrivateFindingJson.{put_address, put_directory, put_other, put_other_path};
 
 use crate::finding_prints::{other_of, push_message};
 use desk_findings::{Finding, Matter};
+use desk_origins::{Origin, origin_of, own_place};
 use desk_text::{Addr, Path};
 use serde_json::{Map, Value, put};
 use std::alloc::{AllocError, Global};
@@ -24,7 +25,8 @@ use std::alloc::{AllocError, Global};
 /// Prints findings in their order as one compact JSON list and a line end: `[]` if there are none. Each is an object with
 /// `column`, `kind`, `line`, `name`, `path`, `rule` (its number), `text` (its sentence) and `word` (its slice); a netgroup
 /// that is defined twice also has the earlier line as `other`, and a contradiction `other` and `address`, as a remark has that
-/// shows an example; that the server grants more also has the `directory`, if there is one.
+/// shows an example; that the server grants more also has the `directory`, if there is one. Beside `other` stands the path of
+/// its file as `other_path`, if several texts were read as one.
 pub fn findings_json(alloc: Global, findings: &[Finding]) -> Result<String, AllocError>
     requires { HaveSlices findings.now }
     ensures { IfOk result (λ text. string_bytes text ≡ spec.findings_json findings.now) }
@@ -111,14 +113,17 @@ fn add_members(
     requires none { members.old.entries ≡ [] }
     ensures { OnOk result (object (members_view members.new.entries) ≡ spec.value_of finding.now) }
 {
+    let place = own_place(finding.origins, finding.path, finding.line());
+    let other = other_of(finding.matter);
     add_address(alloc, address_of(finding.matter), members)?;
     add_number(alloc, "column", finding.column, members)?;
     add_directory(alloc, finding.directory.as_ref(), members)?;
     add_text(alloc, "kind", finding.matter.kind(), members)?;
-    add_number(alloc, "line", finding.line() as usize, members)?;
+    add_number(alloc, "line", place.line, members)?;
     add_text(alloc, "name", finding.matter.name(), members)?;
-    add_other(alloc, other_of(finding.matter), members)?;
-    add_text(alloc, "path", finding.path, members)?;
+    add_other(alloc, finding.origins, other, members)?;
+    add_other_path(alloc, finding.origins, other, members)?;
+    add_text(alloc, "path", place.path, members)?;
     add_number(alloc, "rule", finding.matter.number() as usize, members)?;
     add_message(alloc, finding, members)?;
     add_text(alloc, "word", finding.slice(), members)
@@ -169,13 +174,30 @@ fn add_directory(
 /// Adds another line, if there is one.
 fn add_other(
     alloc: Global,
+    origins: &[Origin],
     other: Option<u32>,
     members: &mut Map<String, Value>,
 ) -> Result<(), AllocError>
-    ensures { OnOk result (members_view members.new.entries ≡ put_other other (members_view members.old.entries)) }
+    ensures { OnOk result (members_view members.new.entries ≡ put_other origins.now other (members_view members.old.entries)) }
 {
     match other {
-        Some(other) => add_number(alloc, "other", other as usize, members),
+        Some(other) => add_number(alloc, "other", own_place(origins, "", other).line, members),
+        None => Ok(()),
+    }
+}
+
+/// Adds the path of the file that has another line, if there is one, and several texts were read as one.
+fn add_other_path(
+    alloc: Global,
+    origins: &[Origin],
+    other: Option<u32>,
+    members: &mut Map<String, Value>,
+) -> Result<(), AllocError>
+    ensures { OnOk result (members_view members.new.entries ≡ put_other_path origins.now other (members_view members.old.entries)) }
+{
+    let Some(other) = other else { return Ok(()) };
+    match origin_of(origins, other) {
+        Some(origin) => add_text(alloc, "other_path", origin.path.as_str(), members),
         None => Ok(()),
     }
 }

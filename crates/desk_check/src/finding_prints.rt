@@ -14,6 +14,7 @@ ghost use Rattle.desk_check.specs.FindingPrints as spec;
 
 use crate::hints::hint;
 use desk_findings::{Finding, Matter};
+use desk_origins::{LineName, Origin, own_place};
 use desk_remarks::{Example, OtherLine, Remark};
 use desk_shown::{push_blanks, push_carets, push_shown, push_shown_line};
 use desk_text::{Addr, Path, Place};
@@ -112,16 +113,26 @@ fn push_beside(finding: &Finding, text: &mut String) -> Result<(), AllocError>
     ensures { OnOk result (string_bytes text.new ≡ string_bytes text.old ++ spec.beside_text finding.now) }
 {
     match (other_of(finding.matter), finding.beside) {
-        (Some(number), Some(line)) => push_other_line(finding.path, number, line, text),
+        (Some(number), Some(line)) => {
+            push_other_line(finding.origins, finding.path, number, line, text)
+        }
         _ => Ok(()),
     }
 }
 
 /// Adds a line that is shown below the marked one: its place, and the line.
-fn push_other_line(path: &str, number: u32, line: &str, text: &mut String) -> Result<(), AllocError>
-    ensures { OnOk result (string_bytes text.new ≡ string_bytes text.old ++ spec.other_line_text path.now number line.now) }
+fn push_other_line(
+    origins: &[Origin],
+    path: &str,
+    number: u32,
+    line: &str,
+    text: &mut String,
+) -> Result<(), AllocError>
+    ensures { OnOk result (string_bytes text.new ≡ string_bytes text.old ++ spec.other_line_text origins.now path.now number line.now) }
 {
-    push_shown(path, text)?;
+    let place = own_place(origins, path, number);
+    let number = place.line;
+    push_shown(place.path, text)?;
     write!(text, ":{number}:1: the other line\n")?;
     push_beginning(line, text)
 }
@@ -161,9 +172,10 @@ fn push_headline(finding: &Finding, text: &mut String) -> Result<(), AllocError>
 fn push_position(finding: &Finding, text: &mut String) -> Result<(), AllocError>
     ensures { OnOk result (string_bytes text.new ≡ string_bytes text.old ++ spec.position_text finding.now) }
 {
-    let line = finding.line();
+    let place = own_place(finding.origins, finding.path, finding.line());
+    let line = place.line;
     let column = finding.column;
-    push_shown(finding.path, text)?;
+    push_shown(place.path, text)?;
     write!(text, ":{line}:{column}: ")
 }
 
@@ -191,17 +203,21 @@ pub fn push_message(finding: &Finding, text: &mut String) -> Result<(), AllocErr
 fn push_sentence(finding: &Finding, text: &mut String) -> Result<(), AllocError>
     requires { HasSlice finding.now }
     ensures { OnOk result (string_bytes text.new
-        ≡ string_bytes text.old ++ spec.sentence finding.now.source.now finding.now.place finding.now.matter finding.now.directory) }
+        ≡ string_bytes text.old ++ spec.sentence finding.now.origins.now finding.now.source.now finding.now.place finding.now.matter finding.now.directory) }
 {
     match finding.matter {
         Matter::Fault(rule, other) => {
             push_subject(finding, text)?;
             let sentence = rule.sentence();
             write!(text, " {sentence}")?;
-            push_other(other, text)
+            push_other(finding.origins, other, text)
         }
         Matter::Contradiction(other, address) => {
-            write!(text, "line {other} has other terms for {address}")
+            let name = LineName {
+                origins: finding.origins,
+                line: other,
+            };
+            write!(text, "line {name} has other terms for {address}")
         }
         Matter::Warning(kind) => {
             push_subject(finding, text)?;
@@ -210,22 +226,25 @@ fn push_sentence(finding: &Finding, text: &mut String) -> Result<(), AllocError>
         }
         Matter::Remark(remark, None) => text.push_str(remark.sentence()),
         Matter::Remark(remark, Some(shown)) => {
-            push_remark(remark, shown, finding.directory.as_ref(), text)
+            let directory = finding.directory.as_ref();
+            push_remark(finding.origins, remark, shown, directory, text)
         }
     }
 }
 
 /// Adds what is said of a line, with the line, the address and the directory that show it.
 fn push_remark(
+    origins: &[Origin],
     remark: Remark,
     shown: Example,
     directory: Option<&Path>,
     text: &mut String,
 ) -> Result<(), AllocError>
     ensures { OnOk result (string_bytes text.new
-        ≡ string_bytes text.old ++ spec.remark_with remark shown.line shown.address (option_copied directory.entry)) }
+        ≡ string_bytes text.old ++ spec.remark_with origins.now remark shown.line shown.address (option_copied directory.entry)) }
 {
     let Example { line, address } = shown;
+    let line = LineName { origins, line };
     match remark.other() {
         OtherLine::Grants => push_wider(line, address, directory, text),
         OtherLine::Taken => push_repeated(line, address, text),
@@ -237,15 +256,15 @@ fn push_remark(
 }
 
 /// Adds what shows a remark: a line, and an address.
-fn push_example(line: u32, address: Addr, text: &mut String) -> Result<(), AllocError>
-    ensures { OnOk result (string_bytes text.new ≡ string_bytes text.old ++ spec.shown_by line address) }
+fn push_example(line: LineName<'_>, address: Addr, text: &mut String) -> Result<(), AllocError>
+    ensures { OnOk result (string_bytes text.new ≡ string_bytes text.old ++ spec.shown_by line.entry.origins.now line.entry.line address) }
 {
     write!(text, ", beginning with line {line} for {address}")
 }
 
 /// Adds that an earlier line has a client.
-fn push_repeated(line: u32, address: Addr, text: &mut String) -> Result<(), AllocError>
-    ensures { OnOk result (string_bytes text.new ≡ string_bytes text.old ++ spec.repeated_text line address) }
+fn push_repeated(line: LineName<'_>, address: Addr, text: &mut String) -> Result<(), AllocError>
+    ensures { OnOk result (string_bytes text.new ≡ string_bytes text.old ++ spec.repeated_text line.entry.origins.now line.entry.line address) }
 {
     push_taken(line, text)?;
     push_address(address, text)?;
@@ -253,8 +272,8 @@ fn push_repeated(line: u32, address: Addr, text: &mut String) -> Result<(), Allo
 }
 
 /// Adds that mountd(8) may leave the line out because of an earlier one.
-fn push_taken(line: u32, text: &mut String) -> Result<(), AllocError>
-    ensures { OnOk result (string_bytes text.new ≡ string_bytes text.old ++ spec.taken_text line) }
+fn push_taken(line: LineName<'_>, text: &mut String) -> Result<(), AllocError>
+    ensures { OnOk result (string_bytes text.new ≡ string_bytes text.old ++ spec.taken_text line.entry.origins.now line.entry.line) }
 {
     write!(
         text,
@@ -271,12 +290,12 @@ fn push_address(address: Addr, text: &mut String) -> Result<(), AllocError>
 
 /// Adds what the server lets a client mount by another line, and what to do about it.
 fn push_wider(
-    line: u32,
+    line: LineName<'_>,
     address: Addr,
     directory: Option<&Path>,
     text: &mut String,
 ) -> Result<(), AllocError>
-    ensures { OnOk result (string_bytes text.new ≡ string_bytes text.old ++ spec.wider_text line address (option_copied directory.entry)) }
+    ensures { OnOk result (string_bytes text.new ≡ string_bytes text.old ++ spec.wider_text line.entry.origins.now line.entry.line address (option_copied directory.entry)) }
 {
     text.push_str("mountd(8) also lets ")?;
     push_address(address, text)?;
@@ -306,8 +325,8 @@ fn remedy_of(directory: Option<&Path>) -> &'static str
 }
 
 /// Adds by which line that is, and what to do about it.
-fn push_remedy(line: u32, remedy: &str, text: &mut String) -> Result<(), AllocError>
-    ensures { OnOk result (string_bytes text.new ≡ string_bytes text.old ++ spec.remedy_text line remedy.now) }
+fn push_remedy(line: LineName<'_>, remedy: &str, text: &mut String) -> Result<(), AllocError>
+    ensures { OnOk result (string_bytes text.new ≡ string_bytes text.old ++ spec.remedy_text line.entry.origins.now line.entry.line remedy.now) }
 {
     write!(
         text,
@@ -365,11 +384,14 @@ fn count_characters(text: &str) -> usize
 }
 
 /// Adds the earlier line of a netgroup, if there is one.
-fn push_other(other: Option<u32>, text: &mut String) -> Result<(), AllocError>
-    ensures { OnOk result (string_bytes text.new ≡ string_bytes text.old ++ spec.other_text other) }
+fn push_other(origins: &[Origin], other: Option<u32>, text: &mut String) -> Result<(), AllocError>
+    ensures { OnOk result (string_bytes text.new ≡ string_bytes text.old ++ spec.other_text origins.now other) }
 {
     match other {
-        Some(line) => write!(text, ": line {line}"),
+        Some(line) => {
+            let name = LineName { origins, line };
+            write!(text, ": line {name}")
+        }
         None => Ok(()),
     }
 }

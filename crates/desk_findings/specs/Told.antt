@@ -3,6 +3,7 @@ use Rattle.std.specs.Prelude.{◌≡◌, ℕ, ◌-◌, Bool, true, false, List, 
 use Rattle.std.specs.Option.{option_copied, option_map}
 use Rattle.std.specs.Str.Lines.{lines}
 use Rattle.desk_text.specs.declared.place.Place.{Place}
+use Rattle.desk_origins.specs.declared.origins.Origin.{Origin}
 use Rattle.desk_remarks.specs.Remark.{other_line_of}
 use Rattle.desk_remarks.specs.declared.remark.OtherLine.{OtherLine}
 use Rattle.desk_remarks.specs.declared.remark.OtherLine.TheVariants.{First, Grants, Taken}
@@ -17,6 +18,7 @@ use Rattle.desk_findings.specs.declared.finding.Matter.TheVariants as matter
 -- a finding by value
 pub record Told : Type 0 where
   pub path : List ℕ
+  pub origins : List Origin
   pub source : List ℕ
   pub place : Option Place
   pub column : ℕ
@@ -27,6 +29,7 @@ pub record Told : Type 0 where
 abbrev pub told : Finding → Told
 told finding = record {
   path = finding.path.now;
+  origins = finding.origins.now;
   source = finding.source.now;
   place = finding.place;
   column = finding.column;
@@ -61,10 +64,11 @@ other_line (matter.Remark remark (Some shown)) = if shows_other remark then Some
 abbrev pub beside_in : List (List ℕ) → Matter → Option (List ℕ)
 beside_in lines matter = option_map (λ number. slice_index_or lines (number - 1) []) (other_line matter)
 
--- what is told of a matter at a place of a text of these lines, which has this path, and of a directory or none
-abbrev pub tell_in : List ℕ → List (List ℕ) → Option Place → Matter → Option (List (List ℕ)) → Told
-tell_in path lines place matter directory = record {
-  path = path;
+-- what is told of a matter at a place of a text of these lines, and of a directory or none
+abbrev pub tell_in : Source → List (List ℕ) → Option Place → Matter → Option (List (List ℕ)) → Told
+tell_in text lines place matter directory = record {
+  path = text.path.now;
+  origins = text.origins.now;
   source = slice_index_or lines (shown_line place - 1) [];
   place = place;
   column = column_at (slice_index_or lines (shown_line place - 1) []) place;
@@ -75,7 +79,7 @@ tell_in path lines place matter directory = record {
 
 -- what is told of a matter at a place of a text, and of a directory or none
 abbrev pub tell_about : Source → Option Place → Matter → Option (List (List ℕ)) → Told
-tell_about source place matter directory = tell_in source.path.now (lines source.text.now) place matter directory
+tell_about source place matter directory = tell_in source (lines source.text.now) place matter directory
 
 -- the same of no directory
 abbrev pub tell : Source → Option Place → Matter → Told

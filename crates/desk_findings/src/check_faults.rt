@@ -12,6 +12,7 @@ use crate::finding::{Finding, Matter};
 use desk_exports as exports;
 use desk_netgroup as netgroup;
 use desk_netgroup::Netgroups;
+use desk_origins::Origin;
 use desk_policy::{PerTable, SiteRule};
 use desk_remarks::{OtherLine, Remark};
 use desk_tables as tables;
@@ -24,6 +25,8 @@ use std::alloc::{AllocError, Global};
 pub struct Source<'a> {
     pub path: &'a str,
     pub text: &'a str,
+    /// If several texts were read as one: where the lines of each begin.
+    pub origins: &'a [Origin],
 }
 
 /// The front of a physical line of a text, in bytes, whose characters are counted. It keeps the work linear when a long line
@@ -129,7 +132,7 @@ pub fn push_table_faults<'a>(
     let lines = lines_of(alloc, source.text)?;
     for one in faults {
         let matter = Matter::Fault(SiteRule::Table(one.fault.rule), None);
-        found.push(finding_in(source.path, lines.as_slice(), one.place, matter))?;
+        found.push(finding_in(source, lines.as_slice(), one.place, matter))?;
     }
     Ok(())
 }
@@ -146,7 +149,7 @@ fn push_group_faults<'a>(
     let lines = lines_of(alloc, source.text)?;
     for one in faults {
         let matter = Matter::Fault(SiteRule::Group(one.fault.rule), one.fault.other);
-        found.push(finding_in(source.path, lines.as_slice(), Some(one.place), matter))?;
+        found.push(finding_in(source, lines.as_slice(), Some(one.place), matter))?;
     }
     Ok(())
 }
@@ -163,7 +166,7 @@ pub fn push_line_faults<'a>(
     let lines = lines_of(alloc, source.text)?;
     for one in faults {
         let matter = Matter::Fault(SiteRule::Line(one.fault.rule), None);
-        found.push(finding_in(source.path, lines.as_slice(), Some(one.place), matter))?;
+        found.push(finding_in(source, lines.as_slice(), Some(one.place), matter))?;
     }
     Ok(())
 }
@@ -181,25 +184,25 @@ pub fn lines_of(alloc: Global, text: &str) -> Result<Vec<&str>, AllocError>
 
 /// Makes the finding of a matter at a place of a text of these lines. It is about no directory.
 pub fn finding_in<'a>(
-    path: &'a str,
+    source: Source<'a>,
     lines: &[&'a str],
     place: Option<Place>,
     matter: Matter,
 ) -> Finding<'a>
-    ensures { told result ≡ tell_in path.entry.now (map (λ line. line.now) lines.now) place matter None }
+    ensures { told result ≡ tell_in source.entry (map (λ line. line.now) lines.now) place matter None }
 {
     let mut front = Front {
         line: 0,
         bytes: 0,
         characters: 0,
     };
-    finding_behind(path, lines, place, matter, None, &mut front)
+    finding_behind(source, lines, place, matter, None, &mut front)
 }
 
 /// Makes the finding of a matter, about this directory or none, and counts its column from the front that is counted already on, if
 /// that is of its line.
 pub fn finding_behind<'a>(
-    path: &'a str,
+    text: Source<'a>,
     lines: &[&'a str],
     place: Option<Place>,
     matter: Matter,
@@ -207,7 +210,7 @@ pub fn finding_behind<'a>(
     front: &mut Front,
 ) -> Finding<'a>
     requires { IsFront (map (λ line. line.now) lines.now) front.now }
-    ensures finding { told result ≡ tell_in path.entry.now (map (λ line. line.now) lines.now) place matter directory }
+    ensures finding { told result ≡ tell_in text.entry (map (λ line. line.now) lines.now) place matter directory }
     ensures front { IsFront (map (λ line. line.now) lines.now) front.new }
 {
     let source = line_at(lines, shown_line(place));
@@ -224,7 +227,8 @@ pub fn finding_behind<'a>(
         None => 1,
     };
     Finding {
-        path,
+        path: text.path,
+        origins: text.origins,
         source,
         place,
         column,

@@ -375,7 +375,7 @@ fn push_spots<'a>(
     for spot in spots {
         let directory = copied(spot.directory)?;
         let finding = finding_behind(
-            source.path,
+            source,
             lines.as_slice(),
             spot.place,
             spot.matter,

@@ -4,6 +4,7 @@ ghost use Rattle.std.specs.Prelude.{◌≡◌};
 ghost use Rattle.std.specs.List.{list_any};
 ghost use Rattle.desk_findings.specs.Finding as spec;
 
+use desk_origins::Origin;
 use desk_policy::{SiteRule, WarningKind};
 use desk_remarks::{Example, Remark};
 use desk_text::{Addr, Path, Place};
@@ -26,6 +27,8 @@ pub enum Matter {
 pub struct Finding<'a> {
     /// The path of the file, as it was given.
     pub path: &'a str,
+    /// If several texts were read as one: where the lines of each begin.
+    pub origins: &'a [Origin],
     /// The physical line that has the slice, without its line end.
     pub source: &'a str,
     /// Where the slice is; `None` for a fault of the file as a whole, which is told at 1:1.

@@ -59,7 +59,7 @@ fn range_values(
 }
 
 /// Makes the value of a range.
-fn range_value(alloc: Global, policy: &Policy, range: &Range<'_>) -> Result<Value, AllocError>
+pub fn range_value(alloc: Global, policy: &Policy, range: &Range<'_>) -> Result<Value, AllocError>
     ensures { IfOk result (λ value. data_of value ≡ range_data policy.now (range_value range.now)) }
 {
     let first = address_text(alloc, range.first)?;

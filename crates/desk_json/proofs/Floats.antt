@@ -9,11 +9,14 @@ use Rattle.std.proofs.lemmas.Bool.{or_parts}
 use Rattle.serde_json.specs.Data.{Data, string}
 use Rattle.serde_json.specs.View.{items_of}
 use Rattle.serde_json.specs.Written.{compact_text, has_float, items_have_float}
+use Rattle.desk_text.specs.Address.{addr_text}
 use Rattle.desk_tables.specs.declared.credentials.Cred.{Cred}
 use Rattle.desk_exports.specs.declared.entry.Clients.{Clients}
 use Rattle.desk_exports.specs.declared.entry.Clients.TheVariants.{Hosts, Net, Net6, World}
 use Rattle.desk_exports.specs.declared.entry.Entry.{Entry}
 use Rattle.desk_exports.specs.declared.entry.Flavour.{Flavour}
+use Rattle.desk_origins.specs.Origins.{origin_of}
+use Rattle.desk_origins.specs.declared.origins.Origin.{Origin}
 use Rattle.desk_policy.specs.Policy.{Content, rows_of}
 use Rattle.desk_policy.specs.Prints.{mount_text}
 use Rattle.desk_policy.specs.Verdict.{Grant}
@@ -28,12 +31,14 @@ use Rattle.desk_core.specs.declared.proposal.Proposal.{Proposal}
 use Rattle.desk_store.specs.declared.desk.Signature.{Signature}
 use Rattle.desk_service.specs.Files.{ListedFile, ListedFiles}
 use Rattle.desk_http_bodies.specs.Exports.{dir_data}
+use Rattle.desk_http_bodies.specs.Ranges.{ended_range}
 use Rattle.desk_http_bodies.specs.Verdicts.{flavour_data, verdict_data}
 use Rattle.desk_json.specs.Changes.{change_data, changes_data, listed, place_data}
 use Rattle.desk_json.specs.Exports.{all_exports_data, clients_data, line_data, system_lines}
 use Rattle.desk_json.specs.Files.{file_data, files_data, listed_data, mark_word, proposed_data}
 use Rattle.desk_json.specs.Log.{log_data, revision_data, signature_data, told_profile}
-use Rattle.desk_json.specs.Why.{lines_of, reason_data, why_data}
+use Rattle.desk_json.specs.Named.{line_of, named_range, named_verdict, named_who, with_file, with_origin, with_own_line}
+use Rattle.desk_json.specs.Why.{lines_of, reason_data, why_data, with_why}
 
 -- ---- lists of values
 list_has_none : {A : Type 0} (write : A → Data) → ((a : A) → has_float (write a) ≡ false) → (xs : List A) → items_have_float (items_of (map write xs)) ≡ false
@@ -67,15 +72,60 @@ verdict_has_none content own (Err NoFileSystem) = refl
 verdict_has_none content own (Err (NoLine fs)) = refl
 verdict_has_none content own (Err (NotListed fs line)) = refl
 
+-- ---- verdicts that name the file of a line
+origin_has_none : (origin : Option Origin) (line : ℕ) (told : Data) → ((one : Origin) → has_float (with_own_line one line told) ≡ false) → has_float told ≡ false → has_float (with_origin origin line told) ≡ false
+origin_has_none None line told own none = none
+origin_has_none (Some origin) line told own none = own origin
+
+pub named_has_none : (content : Content) (own : Option Cred) (verdict : Result Grant Denial) → has_float (named_verdict content own verdict) ≡ false
+named_has_none content None (Ok grant) =
+    origin_has_none (origin_of content.origins grant.line) grant.line (verdict_data content None (Ok grant))
+    (λ one. rw (flavours_have_none grant.terms.flavours) refl) (verdict_has_none content None (Ok grant))
+named_has_none content (Some cred) (Ok grant) =
+    origin_has_none (origin_of content.origins grant.line) grant.line (verdict_data content (Some cred) (Ok grant))
+    (λ one. rw (flavours_have_none grant.terms.flavours) refl) (verdict_has_none content (Some cred) (Ok grant))
+named_has_none content own (Err NoFileSystem) = refl
+named_has_none content own (Err (NoLine fs)) = refl
+named_has_none content own (Err (NotListed fs line)) =
+    origin_has_none (origin_of content.origins line) line (verdict_data content own (Err (NotListed fs line))) (λ one. refl) refl
+
+ended_has_none : (content : Content) (first last : List ℕ) (verdict : Result Grant Denial) → has_float (with_file content.origins (line_of verdict) (ended_range content first last verdict)) ≡ false
+ended_has_none content first last (Ok grant) =
+    origin_has_none (origin_of content.origins grant.line) grant.line (ended_range content first last (Ok grant))
+    (λ one. rw (flavours_have_none grant.terms.flavours) refl) (rw (flavours_have_none grant.terms.flavours) refl)
+ended_has_none content first last (Err NoFileSystem) = refl
+ended_has_none content first last (Err (NoLine fs)) = refl
+ended_has_none content first last (Err (NotListed fs line)) =
+    origin_has_none (origin_of content.origins line) line (ended_range content first last (Err (NotListed fs line))) (λ one. refl) refl
+
+range_has_none : (content : Content) (range : Run (Result Grant Denial)) → has_float (named_range content range) ≡ false
+range_has_none content range = ended_has_none content (addr_text range.first) (addr_text range.last) range.value
+
+pub who_has_none : (content : Content) (path : List (List ℕ)) (ranges : List (Run (Result Grant Denial))) → has_float (named_who content path ranges) ≡ false
+who_has_none content path ranges = rw (list_has_none (named_range content) (range_has_none content) ranges) refl
+
+-- ---- verdicts with why
 reasons_have_none : (reasons : List ℕ) → items_have_float (items_of (map reason_data (lines_of reasons))) ≡ false
 reasons_have_none reasons = list_has_none reason_data (λ line. refl) (lines_of reasons)
 
+-- what the reasons add
+why_of : (origin : Option Origin) (line : ℕ) (told : Data) (reasons : List ℕ) → ((one : Origin) → has_float (with_why reasons (with_own_line one line told)) ≡ false)
+    → has_float (with_why reasons told) ≡ false → has_float (with_why reasons (with_origin origin line told)) ≡ false
+why_of None line told reasons own none = none
+why_of (Some origin) line told reasons own none = own origin
+
 pub why_has_none : (content : Content) (own : Option Cred) (verdict : Result Grant Denial) (reasons : List ℕ) → has_float (why_data content own verdict reasons) ≡ false
-why_has_none content None (Ok grant) reasons = rw (flavours_have_none grant.terms.flavours, reasons_have_none reasons) refl
-why_has_none content (Some cred) (Ok grant) reasons = rw (flavours_have_none grant.terms.flavours, reasons_have_none reasons) refl
+why_has_none content None (Ok grant) reasons =
+    why_of (origin_of content.origins grant.line) grant.line (verdict_data content None (Ok grant)) reasons
+    (λ one. rw (flavours_have_none grant.terms.flavours, reasons_have_none reasons) refl) (rw (flavours_have_none grant.terms.flavours, reasons_have_none reasons) refl)
+why_has_none content (Some cred) (Ok grant) reasons =
+    why_of (origin_of content.origins grant.line) grant.line (verdict_data content (Some cred) (Ok grant)) reasons
+    (λ one. rw (flavours_have_none grant.terms.flavours, reasons_have_none reasons) refl) (rw (flavours_have_none grant.terms.flavours, reasons_have_none reasons) refl)
 why_has_none content own (Err NoFileSystem) reasons = rw (reasons_have_none reasons) refl
 why_has_none content own (Err (NoLine fs)) reasons = rw (reasons_have_none reasons) refl
-why_has_none content own (Err (NotListed fs line)) reasons = rw (reasons_have_none reasons) refl
+why_has_none content own (Err (NotListed fs line)) reasons =
+    why_of (origin_of content.origins line) line (verdict_data content own (Err (NotListed fs line))) reasons
+    (λ one. rw (reasons_have_none reasons) refl) (rw (reasons_have_none reasons) refl)
 
 -- ---- lines
 clients_have_none : (clients : Clients) → items_have_float (items_of (clients_data clients)) ≡ false

@@ -7,7 +7,7 @@ use Rattle.desk_policy.specs.Policy.{Content}
 use Rattle.desk_policy.specs.Verdict.{Grant}
 use Rattle.desk_policy.specs.declared.verdict.Denial.{Denial}
 use Rattle.desk_http_bodies.specs.Json.{list}
-use Rattle.desk_http_bodies.specs.Verdicts.{verdict_data}
+use Rattle.desk_json.specs.Named.{named_verdict}
 
 -- parts without the last one, if that is empty
 abbrev pub without_empty_end : List (List ℕ) → List (List ℕ)
@@ -30,4 +30,4 @@ with_why reasons other = other
 
 -- the answer to a mount request, for a client with this credential of its own, if it told one, and the lines that say why
 abbrev pub why_data : Content → Option Cred → Result Grant Denial → List ℕ → Data
-why_data content own verdict reasons = with_why reasons (verdict_data content own verdict)
+why_data content own verdict reasons = with_why reasons (named_verdict content own verdict)

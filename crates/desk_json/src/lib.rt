@@ -10,10 +10,12 @@ pub mod changes;
 pub mod exports;
 pub mod files;
 pub mod log;
+pub mod named;
 pub mod why;
 
 pub use changes::{changes_name_mounts, changes_object};
 pub use exports::exports_object;
 pub use files::files_object;
 pub use log::log_object;
+pub use named::{verdict_object, who_object};
 pub use why::why_object;

@@ -9,7 +9,7 @@ ghost use Rattle.desk_policy.specs.Verdict.{verdict_result};
 ghost use Rattle.desk_http_bodies.specs.Json.{list};
 ghost use Rattle.desk_json.specs.Why.{lines_of, reason_data, why_data, with_why, without_empty_end};
 
-use desk_http_bodies::verdicts::verdict_value;
+use crate::named::named_verdict;
 use desk_policy::{Policy, Verdict};
 use desk_tables::Cred;
 use desk_text::split_at;
@@ -41,7 +41,7 @@ fn why_value(
 ) -> Result<Value, AllocError>
     ensures { IfOk result (λ value. data_of value ≡ why_data policy.now own.now (verdict_result verdict.now) reasons.now) }
 {
-    let value = verdict_value(alloc, policy, verdict, own)?;
+    let value = named_verdict(alloc, policy, verdict, own)?;
     with_why(alloc, reasons, value)
 }
 

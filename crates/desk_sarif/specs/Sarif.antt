@@ -4,11 +4,13 @@ use Rattle.std.specs.Str.{chars}
 use Rattle.serde_json.specs.Data.{Data, Members, member, no_members, object, string}
 use Rattle.desk_remarks.specs.Remark.{is_opinion}
 use Rattle.desk_remarks.specs.declared.remark.Remark.{Remark}
-use Rattle.desk_findings.specs.Finding.{line_at, slice_at}
+use Rattle.desk_origins.specs.Origins.{own_number, own_path}
+use Rattle.desk_origins.specs.declared.origins.Origin.{Origin}
+use Rattle.desk_findings.specs.Finding.{slice_at}
 use Rattle.desk_findings.specs.declared.finding.Finding.{Finding}
 use Rattle.desk_findings.specs.declared.finding.Matter.{Matter}
 use Rattle.desk_findings.specs.declared.finding.Matter.TheVariants as matter
-use Rattle.desk_check.specs.FindingPrints.{message_of, other_of}
+use Rattle.desk_check.specs.FindingPrints.{message_of, number_in_file, other_of, path_of}
 use Rattle.desk_check.specs.IgnoredWarnings.{is_ignored}
 use Rattle.desk_sarif.specs.Logs.{line_in, list, log_text, message_data, only, place_in, single, slice_region}
 use Rattle.desk_sarif.specs.SarifRules.{log_rules, rule_data, rule_id}
@@ -30,11 +32,11 @@ end_column finding = finding.column + length (chars (slice_at finding.source.now
 -- The region of a finding: from the column of its slice to the one behind it, in characters from 1. A file as a whole, whose
 -- slice has none, is the point before its first character (section 3.30.2).
 abbrev pub region_of : Finding → Data
-region_of finding = slice_region (line_at finding.place) finding.column (end_column finding)
+region_of finding = slice_region (number_in_file finding) finding.column (end_column finding)
 
 -- where a finding is
 abbrev pub location_of : Finding → Data
-location_of finding = only (codes "physicalLocation") (place_in finding.path.now (region_of finding))
+location_of finding = only (codes "physicalLocation") (place_in (path_of finding) (region_of finding))
 
 -- What the line is that a finding names beside its own. That of a fault comes before it; that of a remark need not.
 abbrev pub other_words : Matter → List ℕ
@@ -44,9 +46,9 @@ other_words (matter.Warning kind) = []
 other_words (matter.Remark remark example) = codes "the other line"
 
 -- a member for another line, if there is one, before these
-abbrev pub with_other : List ℕ → List ℕ → Option ℕ → Members → Members
-with_other words path None members = members
-with_other words path (Some line) members = member (codes "relatedLocations") (single (line_in words path line)) members
+abbrev pub with_other : List ℕ → List Origin → List ℕ → Option ℕ → Members → Members
+with_other words origins path None members = members
+with_other words origins path (Some line) members = member (codes "relatedLocations") (single (line_in words (own_path origins path line) (own_number origins line))) members
 
 -- What is said of a result that is suppressed, by an option and not in the source, and of one that is not. (Sections 3.27.23 and 3.35: all
 -- results of a run say it, or none does.)
@@ -69,7 +71,7 @@ result_of other suppressed finding text = object
     (member (codes "level") (string (level_of finding.matter))
     (member (codes "locations") (single (location_of finding))
     (member (codes "message") (message_data text)
-    (with_other (other_words finding.matter) finding.path.now other
+    (with_other (other_words finding.matter) finding.origins.now finding.path.now other
     (member (codes "ruleId") (string (rule_id finding.matter)) (suppressions_of suppressed))))))
 
 abbrev pub result_data : Option (List ℕ) → Finding → Data

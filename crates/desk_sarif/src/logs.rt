@@ -69,7 +69,12 @@ fn driver_value(alloc: Global, rules: Vec<Value>) -> Result<Value, AllocError>
 }
 
 /// Makes the region of a slice: its line, its column, and the column behind it, in characters from 1.
-pub fn slice_region(alloc: Global, line: u32, start: usize, end: usize) -> Result<Value, AllocError>
+pub fn slice_region(
+    alloc: Global,
+    line: usize,
+    start: usize,
+    end: usize,
+) -> Result<Value, AllocError>
     ensures { IfOk result (λ value. view value ≡ spec.slice_region line start end) }
 {
     json!(in alloc; {"endColumn": end, "startColumn": start, "startLine": line})
@@ -101,7 +106,7 @@ pub fn place_value(alloc: Global, path: &str, region: Value) -> Result<Value, Al
 }
 
 /// Makes a line, as a whole, of the file of a path.
-pub fn line_place(alloc: Global, path: &str, line: u32) -> Result<Value, AllocError>
+pub fn line_place(alloc: Global, path: &str, line: usize) -> Result<Value, AllocError>
     ensures { IfOk result (λ value. view value ≡ spec.line_place path.now line) }
 {
     let region = json!(in alloc; {"startLine": line})?;
@@ -109,7 +114,7 @@ pub fn line_place(alloc: Global, path: &str, line: u32) -> Result<Value, AllocEr
 }
 
 /// Makes the same with these words.
-pub fn line_value(alloc: Global, path: &str, line: u32, words: &str) -> Result<Value, AllocError>
+pub fn line_value(alloc: Global, path: &str, line: usize, words: &str) -> Result<Value, AllocError>
     ensures { IfOk result (λ value. view value ≡ spec.line_in words.now path.now line) }
 {
     let place = line_place(alloc, path, line)?;

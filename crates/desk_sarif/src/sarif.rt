@@ -16,6 +16,7 @@ use crate::logs::{column_behind, line_value, log_text, message_value, place_valu
 use crate::sarif_rules::{all_rule_values, rule_id};
 use desk_check::{add_text, is_ignored, push_message};
 use desk_findings::{Finding, Matter};
+use desk_origins::{OwnPlace, own_place};
 use desk_remarks::Remark;
 use serde_json::{Map, Value, json, put};
 use std::alloc::{AllocError, Global};
@@ -140,7 +141,8 @@ fn locations_value(alloc: Global, finding: &Finding) -> Result<Value, AllocError
     ensures { IfOk result (λ value. view value ≡ single (spec.location_of finding.now)) }
 {
     let region = region_value(alloc, finding)?;
-    let place = place_value(alloc, finding.path, region)?;
+    let own = own_place(finding.origins, finding.path, finding.line());
+    let place = place_value(alloc, own.path, region)?;
     json!(in alloc; [{"physicalLocation": place}])
 }
 
@@ -150,7 +152,8 @@ fn region_value(alloc: Global, finding: &Finding) -> Result<Value, AllocError>
     ensures { IfOk result (λ value. view value ≡ spec.region_of finding.now) }
 {
     let end = column_behind(finding.column, finding.slice())?;
-    slice_region(alloc, finding.line(), finding.column, end)
+    let own = own_place(finding.origins, finding.path, finding.line());
+    slice_region(alloc, own.line, finding.column, end)
 }
 
 /// Adds what a finding says.
@@ -184,39 +187,32 @@ fn add_other(
     members: &mut Map<String, Value>,
 ) -> Result<(), AllocError>
     ensures { let about = finding.now.matter in OnOk result (members_view members.new.entries
-        ≡ put_other (spec.other_words about) finding.now.path.now (other_of about) (members_view members.old.entries)) }
+        ≡ put_other (spec.other_words about) finding.now.origins.now finding.now.path.now (other_of about) (members_view members.old.entries)) }
 {
     match finding.matter {
-        Matter::Contradiction(other, _) | Matter::Fault(_, Some(other)) => add_line(
-            alloc,
-            finding.path,
-            other,
-            "the earlier line",
-            members,
-        ),
-        Matter::Remark(_, Some(shown)) => add_line(
-            alloc,
-            finding.path,
-            shown.line,
-            "the other line",
-            members,
-        ),
+        Matter::Contradiction(other, _) | Matter::Fault(_, Some(other)) => {
+            let place = own_place(finding.origins, finding.path, other);
+            add_line(alloc, place, "the earlier line", members)
+        }
+        Matter::Remark(_, Some(shown)) => {
+            let place = own_place(finding.origins, finding.path, shown.line);
+            add_line(alloc, place, "the other line", members)
+        }
         Matter::Fault(_, None) | Matter::Warning(_) | Matter::Remark(_, None) => Ok(()),
     }
 }
 
-/// Adds a line of the file of a path, with these words.
+/// Adds a line of a file, with these words.
 fn add_line(
     alloc: Global,
-    path: &str,
-    line: u32,
+    place: OwnPlace<'_>,
     words: &str,
     members: &mut Map<String, Value>,
 ) -> Result<(), AllocError>
     ensures { OnOk result (members_view members.new.entries
-        ≡ put_member (codes "relatedLocations") (single (line_in words.now path.now line)) (members_view members.old.entries)) }
+        ≡ put_member (codes "relatedLocations") (single (line_in words.now place.entry.path.now place.entry.line)) (members_view members.old.entries)) }
 {
-    let other = line_value(alloc, path, line, words)?;
+    let other = line_value(alloc, place.path, place.line, words)?;
     let lines = json!(in alloc; [other])?;
     put(members, alloc, "relatedLocations", lines)
 }

@@ -11,6 +11,6 @@ returns c =
     let behind = string_bytes c.push_address.new.text in
     let more = codes ": write the directories on one line" in
     on_ok c.push_str.result
-    (three (string_bytes c.args.text.now) (taken_text c.args.line) (addr_text (number_of c.args.address)) more (string_bytes c.push_taken.new.text) behind (string_bytes c.push_str.new.self)
+    (three (string_bytes c.args.text.now) (taken_text c.args.line.origins.now c.args.line.line) (addr_text (number_of c.args.address)) more (string_bytes c.push_taken.new.text) behind (string_bytes c.push_str.new.self)
     c.in_ok-push_taken.ensures c.in_ok-push_address.ensures)
     (added c.push_str.result (string_bytes c.push_str.new.self) (behind ++ more) behind c.push_str.ensures.bytes)
