@@ -15,11 +15,11 @@ _exportdesk()
         case $is_value:${COMP_WORDS[place]} in
         # (a folder stands for the first word)
         no:--site) is_value=yes count=$((count + 1)) ;;
-        no:--as | no:--base | no:--caller | no:--connections | \
-            no:--group | no:--hosts | no:--ignore | no:--key | \
-            no:--key-file | no:--mounts | no:--netgroup | no:--networks | \
-            no:--passwd | no:--port | no:--proposal | no:--rev | \
-            no:--timeout) is_value=yes ;;
+        no:--and | no:--as | no:--base | no:--caller | \
+            no:--connections | no:--group | no:--hosts | no:--ignore | \
+            no:--key | no:--key-file | no:--mounts | no:--netgroup | \
+            no:--networks | no:--passwd | no:--port | no:--proposal | \
+            no:--rev | no:--timeout) is_value=yes ;;
         yes:=) ;;
         yes:*) is_value=no ;;
         no::) count=$((count - 1)) ;;
@@ -28,13 +28,13 @@ _exportdesk()
         esac
     done
     case $command in
-    try) choices='--hosts --networks --passwd --group --netgroup --mounts --site --as --why --mountd --json --help' ;;
-    check) choices='--hosts --networks --passwd --group --netgroup --mounts --site --brief --strict --json --sarif --opinions --ignore --help' ;;
-    clients) choices='--hosts --networks --passwd --group --netgroup --mounts --site --mountd --json --help' ;;
-    lists) choices='--hosts --networks --passwd --group --netgroup --mounts --site --help' ;;
-    terms) choices='--hosts --networks --passwd --group --netgroup --mounts --site --help' ;;
+    try) choices='--hosts --networks --passwd --group --netgroup --mounts --site --and --zfs --as --why --mountd --json --help' ;;
+    check) choices='--hosts --networks --passwd --group --netgroup --mounts --site --and --zfs --brief --strict --json --sarif --opinions --ignore --help' ;;
+    clients) choices='--hosts --networks --passwd --group --netgroup --mounts --site --and --zfs --mountd --json --help' ;;
+    lists) choices='--hosts --networks --passwd --group --netgroup --mounts --site --and --zfs --help' ;;
+    terms) choices='--hosts --networks --passwd --group --netgroup --mounts --site --and --zfs --help' ;;
     compare) choices='--hosts --networks --passwd --group --netgroup --mounts --site --all --json --help' ;;
-    test) choices='--hosts --networks --passwd --group --netgroup --mounts --site --json --sarif --help' ;;
+    test) choices='--hosts --networks --passwd --group --netgroup --mounts --site --and --zfs --json --sarif --help' ;;
     ask) choices='--as --why --mountd --json --help' ;;
     show) choices='--json --help' ;;
     exports) choices='--terms --json --help' ;;
@@ -60,17 +60,19 @@ _exportdesk()
         before=${COMP_WORDS[COMP_CWORD - 2]}
     fi
     case $command:$before:$word in
-    check:--group:* | check:--hosts:* | check:--mounts:* | check:--netgroup:* | \
-        check:--networks:* | check:--passwd:* | clients:--group:* | clients:--hosts:* | \
-        clients:--mounts:* | clients:--netgroup:* | clients:--networks:* | clients:--passwd:* | \
-        compare:--group:* | compare:--hosts:* | compare:--mounts:* | compare:--netgroup:* | \
-        compare:--networks:* | compare:--passwd:* | lists:--group:* | lists:--hosts:* | \
-        lists:--mounts:* | lists:--netgroup:* | lists:--networks:* | lists:--passwd:* | \
-        put:--key-file:* | terms:--group:* | terms:--hosts:* | terms:--mounts:* | \
-        terms:--netgroup:* | terms:--networks:* | terms:--passwd:* | test:--group:* | \
-        test:--hosts:* | test:--mounts:* | test:--netgroup:* | test:--networks:* | \
-        test:--passwd:* | try:--group:* | try:--hosts:* | try:--mounts:* | \
-        try:--netgroup:* | try:--networks:* | try:--passwd:*)
+    check:--and:* | check:--group:* | check:--hosts:* | check:--mounts:* | \
+        check:--netgroup:* | check:--networks:* | check:--passwd:* | clients:--and:* | \
+        clients:--group:* | clients:--hosts:* | clients:--mounts:* | clients:--netgroup:* | \
+        clients:--networks:* | clients:--passwd:* | compare:--group:* | compare:--hosts:* | \
+        compare:--mounts:* | compare:--netgroup:* | compare:--networks:* | compare:--passwd:* | \
+        lists:--and:* | lists:--group:* | lists:--hosts:* | lists:--mounts:* | \
+        lists:--netgroup:* | lists:--networks:* | lists:--passwd:* | put:--key-file:* | \
+        terms:--and:* | terms:--group:* | terms:--hosts:* | terms:--mounts:* | \
+        terms:--netgroup:* | terms:--networks:* | terms:--passwd:* | test:--and:* | \
+        test:--group:* | test:--hosts:* | test:--mounts:* | test:--netgroup:* | \
+        test:--networks:* | test:--passwd:* | try:--and:* | try:--group:* | \
+        try:--hosts:* | try:--mounts:* | try:--netgroup:* | try:--networks:* | \
+        try:--passwd:*)
         compopt -o filenames
         mapfile -t COMPREPLY < <(compgen -f -- "$word")
         ;;

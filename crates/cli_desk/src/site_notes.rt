@@ -91,5 +91,9 @@ fn source_of<'a>(files: &ListedFiles<'a>, new: Option<NewText<'a>>, file: &'a st
             None => "",
         },
     };
-    Source { path: file, text }
+    Source {
+        path: file,
+        text,
+        origins: &[],
+    }
 }

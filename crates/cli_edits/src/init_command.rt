@@ -459,7 +459,11 @@ fn with_exports<'a>(sources: SiteSources<'a>, site: &'a Site, name: &'a str) -> 
         filesystems: sources.filesystems,
         whole: WholeSources {
             tables: sources.whole.tables,
-            exports: Source { path: name, text },
+            exports: Source {
+                path: name,
+                text,
+                origins: &[],
+            },
         },
     }
 }

@@ -2,6 +2,7 @@
 use Rattle.std.specs.Prelude.{ℕ, ◌-◌, ◌==◌, List, [], ◌∷◌, ◌++◌, Option, None, Some, codes, length, map, slice_index_or, take, if◌then◌else◌}
 use Rattle.std.specs.List.{flat_map}
 use Rattle.serde_json.specs.Data.{Data, member, no_members, object, string}
+use Rattle.desk_origins.specs.Origins.{own_number, own_path}
 use Rattle.desk_policy.specs.Policy.{Content}
 use Rattle.desk_policy.specs.Prints.{mount_text}
 use Rattle.desk_policy.specs.SiteFile.{exports_file_name}
@@ -13,14 +14,19 @@ use Rattle.cli_expectations.specs.NamedLines.{breaking_lines}
 use Rattle.cli_expectations.specs.declared.log_rules.LogRule.TheVariants.{Broken}
 use Rattle.cli_expectations.specs.declared.named_lines.NamedLine.{NamedLine}
 
--- the file that has a line of the exports: the exports text, or in a database that of its file system, as `exports:/usr`
+-- the file that has a line of the exports: the exports text, or in a database that of its file system, as `exports:/usr`; of exports texts that
+-- were read as one, the first
 abbrev pub file_of : Option (List ℕ) → Content → NamedLine → List ℕ
 file_of (Some path) content line = path
 file_of None content line = exports_file_name (mount_text content line.fs.0)
 
+-- a line of a policy as a place, given its file: if several texts were read as one, in its own text
+abbrev pub place_of_line : Content → List ℕ → ℕ → Data
+place_of_line content path line = line_in (codes "a line that breaks it") (own_path content.origins path line) (own_number content.origins line)
+
 -- a line that breaks an expectation, as a place
 abbrev pub line_data : Option (List ℕ) → Content → NamedLine → Data
-line_data exports content line = line_in (codes "a line that breaks it") (file_of exports content line) line.line
+line_data exports content line = place_of_line content (file_of exports content line) line.line
 
 -- the line of words that are broken
 abbrev pub broken_words : List ℕ → List ℕ

@@ -12,6 +12,7 @@ use crate::log_rules::{LogRule, all_rule_values};
 use crate::named_lines::{NamedLine, breaking_lines};
 use cli_output::shown_lines::shown_lines;
 use desk_expect::{Broken, push_sections};
+use desk_origins::own_place;
 use desk_policy::{Policy, exports_file_name, mount_text};
 use desk_sarif::{line_place, line_value, log_text, message_value};
 use serde_json::{Value, json};
@@ -68,7 +69,7 @@ fn broken_result(
     ensures { IfOk result (λ value. view value
         ≡ spec.broken_result (option_map (λ path. path.now) exports.entry) policy.now path.now (broken_value broken.now)) }
 {
-    let place = line_place(alloc, path, broken.expectation.line)?;
+    let place = line_place(alloc, path, broken.expectation.line as usize)?;
     let message = broken_message(alloc, policy, broken)?;
     let lines = breaking_values(alloc, policy, exports, broken)?;
     let id = LogRule::Broken.id(alloc)?;
@@ -146,10 +147,23 @@ fn named_value(
     ensures { IfOk result (λ value. view value ≡ spec.line_data (option_map (λ path. path.now) exports.entry) policy.now named) }
 {
     match exports {
-        Some(path) => line_value(alloc, path, named.line, BREAKS),
+        Some(path) => breaking_value(alloc, policy, path, named.line),
         None => {
             let name = exports_file_name(alloc, mount_text(policy, named.fs))?;
-            line_value(alloc, name.as_str(), named.line, BREAKS)
+            breaking_value(alloc, policy, name.as_str(), named.line)
         }
     }
+}
+
+/// Makes the place of a line of the file of a path; if several texts were read as one, in its own text.
+fn breaking_value(
+    alloc: Global,
+    policy: &Policy,
+    path: &str,
+    line: u32,
+) -> Result<Value, AllocError>
+    ensures { IfOk result (λ value. view value ≡ spec.place_of_line policy.now path.now line) }
+{
+    let own = own_place(policy.origins(), path, line);
+    line_value(alloc, own.path, own.line, BREAKS)
 }

@@ -81,7 +81,7 @@ fn fault_region(alloc: Global, line: &str, place: Place) -> Result<Value, AllocE
 {
     let start = place.column(line);
     let end = column_behind(start, &line[place.start..place.end])?;
-    slice_region(alloc, place.line, start, end)
+    slice_region(alloc, place.line as usize, start, end)
 }
 
 /// Makes the message of a fault.

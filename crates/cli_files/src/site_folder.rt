@@ -1,6 +1,6 @@
 //! The folder of a site's files: their paths, their texts, and both as the checker takes them.
 
-ghost use Rattle.std.specs.Prelude.{◌≡◌, ◌≤◌, ◌++◌, IfOk, Some, codes, length};
+ghost use Rattle.std.specs.Prelude.{◌≡◌, ◌≤◌, ◌++◌, [], IfOk, Some, codes, length};
 ghost use Rattle.std.specs.Result.{result_map_both};
 ghost use Rattle.std.specs.String.{string_bytes};
 ghost use Rattle.desk_policy.specs.SiteFile.{file_name};
@@ -54,10 +54,12 @@ pub fn sources_of<'a>(paths: &'a SiteFiles, texts: &'a SiteFiles) -> SiteSources
 fn source_of<'a>(path: &'a String, text: &'a String) -> Source<'a>
     ensures path { result.path.now ≡ string_bytes path.now }
     ensures text { result.text.now ≡ string_bytes text.now }
+    ensures origins { result.origins.now ≡ [] }
 {
     Source {
         path: path.as_str(),
         text: text.as_str(),
+        origins: &[],
     }
 }
 
@@ -117,6 +119,13 @@ pub fn mounts_path(alloc: Global, folder: &str) -> Result<String, AllocError>
     ensures { IfOk result (λ path. string_bytes path ≡ path_in folder.now (codes "mounts")) }
 {
     path_in(alloc, folder, "mounts")
+}
+
+/// Makes the path of the second exports file in a folder, which holds the lines of ZFS.
+pub fn zfs_exports_path(alloc: Global, folder: &str) -> Result<String, AllocError>
+    ensures { IfOk result (λ path. string_bytes path ≡ path_in folder.now (codes "zfs/exports")) }
+{
+    path_in(alloc, folder, "zfs/exports")
 }
 
 /// Reads the files of these paths. If there is no file of file systems, its text is that of the mount points in the file `mounts`,

@@ -40,6 +40,10 @@ pub enum Failure {
     Argument(BadArgument),
     /// MOUNT is given beside `--mounts`.
     BesideMounts,
+    /// `--and` is given more than 8 times: how often.
+    TooManyFiles(usize),
+    /// `--zfs` is given without `--site`.
+    ZfsAlone,
     /// There are more than 256 different mount points: the argument that gives them, as the usage names it, and how
     /// many there are.
     TooManyMounts(&'static str, usize),
@@ -211,6 +215,8 @@ impl fmt::Display for Failure {
             Failure::BesideSarif(name) => write!(f, "{name}: it cannot be given with --sarif"),
             Failure::Argument(bad) => bad.fmt(f),
             Failure::BesideMounts => f.write_str("MOUNT: it cannot be given with --mounts"),
+            Failure::TooManyFiles(count) => { write!(f, "--and: over 8 files: there are {count}") }
+            Failure::ZfsAlone => f.write_str("--zfs: it needs --site"),
             Failure::TooManyMounts(name, count) => {
                 write!(
                     f,

@@ -1,3 +1,4 @@
 pub mod AskedSystems
+pub mod ExportsTexts
 pub mod FilesInTurn
 pub mod FoundWords

@@ -1,5 +1,8 @@
+pub mod ExportsFiles
 pub mod InTurn
+pub mod Laws
 pub mod MountWords
+pub mod PrivateExportsFiles
 pub mod Subject
 pub mod Systems
 pub mod TableFiles

@@ -80,6 +80,7 @@ files_of folder = systems_at (string_bytes folder.paths.filesystems) (string_byt
 pub record AnswersListed (json : Bool) (path : List ℕ) (result : Result (List Mount) Printed) : Type 0 where
   pub source : Source
   pub at : source.path.now ≡ path
+  pub plain : source.origins.now ≡ []
   pub has_text : HasText (codes "--site") path None source.text.now
   pub answers : AnswersText json source (read_filesystems source.text.now) result
 

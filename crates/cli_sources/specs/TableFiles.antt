@@ -3,6 +3,7 @@ use Rattle.std.specs.Prelude.{◌≡◌, ◌≤◌, ℕ, List, [], ◌∷◌, Op
 use Rattle.std.specs.Option.{option_map}
 use Rattle.std.specs.String.{string_bytes}
 use Rattle.clap.specs.Words.{Row, first_of}
+use Rattle.desk_origins.specs.declared.origins.Origin.{Origin}
 use Rattle.desk_policy.specs.declared.per_table.PerTable.{PerTable}
 use Rattle.desk_findings.specs.declared.check_faults.Source.{Source}
 use Rattle.cli_output.specs.declared.failure.Failure.{Failure}
@@ -56,10 +57,22 @@ paths_in sources = map (λ (source : Source). source.path.now) sources
 abbrev pub texts_in : List Source → List (List ℕ)
 texts_in sources = map (λ (source : Source). source.text.now) sources
 
--- these sources have the paths of these files, and the texts that are read from them
+-- a file that is read alone has no others
+abbrev pub no_origins : List ℕ × Option (List ℕ) → List Origin
+no_origins file = []
+
+abbrev pub origins_in : List Source → List (List Origin)
+origins_in sources = map (λ (source : Source). source.origins.now) sources
+
+-- a source is of one text
+abbrev pub IsPlain : Source → Type 0
+IsPlain source = source.origins.now ≡ []
+
+-- these sources have the paths of these files, and the texts that are read from them, each alone
 pub record AreRead (files : List (List ℕ × Option (List ℕ))) (known : Option (List ℕ)) (sources : List Source) : Type 0 where
   pub paths : paths_in sources ≡ map given_path files
   pub texts : ReadsFiles files known (Ok (texts_in sources))
+  pub plain : origins_in sources ≡ map no_origins files
 
 module _ {S : Type 0} where
   -- the sources of these files; or why one of them has no text, or that two of them are to be standard input

@@ -7,15 +7,15 @@ use Rattle.cli_output.specs.declared.printed.Printed.{Printed}
 use Rattle.cli_words.specs.Words.{After, AnswersBy}
 use Rattle.cli_sources.specs.Subject.{word_at}
 use Rattle.cli_sources.specs.Systems.{AfterSystems}
-use Rattle.cli_sources.specs.TableFiles.{ReadsSources, input_count}
-use Rattle.cli_sources.specs.TwoFiles.{two_files, two_list}
+use Rattle.cli_sources.specs.TableFiles.{input_count}
+use Rattle.cli_sources.specs.TwoFiles.{ReadsTwo, two_files}
 use Rattle.cli_sources.specs.declared.subject.Subject.{Subject}
 use Rattle.cli_sources.specs.declared.two_files.TwoSources.{TwoSources}
 
 module _ (Answers : List Mount → TwoSources → Result Printed Failure → Type 0) where
   -- the answer with these file systems: the files are read after them
   abbrev pub AnswersFiles : List (List ℕ × Option (List ℕ)) → Option (List ℕ) → List Mount → Result Printed Failure → Type 0
-  AnswersFiles files known table result = After (ReadsSources two_list files known) (Answers table) result
+  AnswersFiles files known table result = After (ReadsTwo files known) (Answers table) result
 
   -- the answer about the second text, which this word names: the file systems are read first
   abbrev pub AnswersSecond : Bool → List ℕ → List ℕ → List Row → Option (List ℕ) → Subject → List ℕ → Result Printed Failure → Type 0

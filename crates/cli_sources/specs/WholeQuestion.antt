@@ -7,14 +7,14 @@ use Rattle.cli_output.specs.declared.failure.Failure.{Failure}
 use Rattle.cli_output.specs.declared.printed.Printed.{Printed}
 use Rattle.cli_words.specs.Words.{After}
 use Rattle.cli_sources.specs.Systems.{AfterSystems}
-use Rattle.cli_sources.specs.TableFiles.{ReadsSources, input_count}
-use Rattle.cli_sources.specs.WholeFiles.{whole_files, whole_list}
+use Rattle.cli_sources.specs.TableFiles.{input_count}
+use Rattle.cli_sources.specs.WholeFiles.{ReadsWhole, whole_files}
 use Rattle.cli_sources.specs.declared.subject.Subject.{Subject}
 
 module _ (Answers : List Mount → WholeSources → Result Printed Failure → Type 0) where
   -- the answer with these file systems: the files are read after them
   abbrev pub AnswersFiles : List (List ℕ × Option (List ℕ)) → Option (List ℕ) → List Mount → Result Printed Failure → Type 0
-  AnswersFiles files known table result = After (ReadsSources whole_list files known) (Answers table) result
+  AnswersFiles files known table result = After (ReadsWhole files known) (Answers table) result
 
   -- the answer to what is asked: the file systems are read first, whose fault is printed as JSON, if that is asked
   abbrev pub AnswersWhole : Bool → List Row → Option (List ℕ) → Subject → Result Printed Failure → Type 0

@@ -8,6 +8,8 @@
 //! ```
 #![tactic(auto)]
 
+mod exports_files;
+pub mod laws;
 pub mod line_ends;
 pub mod subject;
 pub mod systems;

@@ -1,15 +1,16 @@
 //! What a command on texts is asked of: the file that its first word names, or the folder of `--site`.
 
-ghost use Rattle.std.specs.Prelude.{◌≡◌, IfOk};
+ghost use Rattle.std.specs.Prelude.{◌≡◌, IfOk, codes, map};
 ghost use Rattle.std.specs.Option.{option_copied, option_map};
+ghost use Rattle.clap.specs.Words.{first_of};
 ghost use Rattle.cli_words.specs.Words.{Finds, rows_in};
 ghost use Rattle.cli_sources.specs.Subject as spec;
-ghost use Rattle.cli_sources.specs.Subject.{IsSiteOf, ReadsSubject, folder_of, places_of, word_at};
+ghost use Rattle.cli_sources.specs.Subject.{IsSiteOf, ReadsSubject, ReadsSubjectBy, and_words, fault_of_files, folder_of, places_of, word_at};
 
 use clap::ArgMatches;
-use cli_files::site_folder::{SiteFiles, mounts_path, paths_of};
+use cli_files::site_folder::{SiteFiles, mounts_path, paths_of, zfs_exports_path};
 use cli_output::failure::Failure;
-use cli_words::words::{given, required, required_as};
+use cli_words::words::{all_given, given, is_set, required, required_as};
 use std::alloc::{AllocError, Global};
 
 /// The names that the words of a command have in its usage.
@@ -23,11 +24,13 @@ pub struct Places {
     pub beside: &'static str,
 }
 
-/// The paths of the files in a folder: those of a site, and that of its mount points.
+/// The paths of the files in a folder: those of a site, that of its mount points, and that of its second exports file.
 #[derive(Drop)]
 pub struct SiteFolder {
     pub paths: SiteFiles,
     pub mounts: String,
+    /// The second exports file, which is read with `--zfs`.
+    pub zfs: String,
 }
 
 /// What a command is asked of.
@@ -50,14 +53,55 @@ impl<'a> Subject<'a> {
     }
 }
 
-/// Finds what a command is asked of. With `--site` each word stands one place to the left, so that the last place is to be empty; and
-/// there are no other mount points.
+/// How often `--and` may be given.
+const MOST_FILES: usize = 8;
+
+/// Finds what a command is asked of, if its exports files can be named so.
 pub fn subject_of<'a>(
     alloc: Global,
     words: &ArgMatches<'a>,
     places: Places,
 ) -> Result<Subject<'a>, Failure>
     ensures { ReadsSubject (places_of places) (rows_in words.now) result }
+{
+    match fault_of_files(words) {
+        Some(failure) => Err(failure),
+        None => subject_by(alloc, words, places),
+    }
+}
+
+/// Finds why exports files cannot be named so: there are too many, or that of ZFS is asked for without a folder.
+fn fault_of_files(words: &ArgMatches<'_>) -> Option<Failure>
+    ensures { result ≡ fault_of_files (rows_in words.now) }
+{
+    let count = and_files(words).len();
+    if MOST_FILES < count {
+        return Some(Failure::TooManyFiles(count));
+    }
+    if is_set(words, "zfs") && given(words, "site").is_none() {
+        return Some(Failure::ZfsAlone);
+    }
+    None
+}
+
+/// The files of an option that is not given.
+const NO_FILES: &[&str] = &[];
+
+/// Returns the files of `--and`.
+pub fn and_files<'w: 'a, 'a>(words: &'a ArgMatches<'w>) -> &'a [&'a str]
+    ensures { map (λ word. word.now) result.now ≡ and_words (rows_in words.entry.now) }
+{
+    all_given(words, "and").unwrap_or(NO_FILES)
+}
+
+/// Finds what a command is asked of. With `--site` each word stands one place to the left, so that the last place is to be empty; and
+/// there are no other mount points.
+fn subject_by<'a>(
+    alloc: Global,
+    words: &ArgMatches<'a>,
+    places: Places,
+) -> Result<Subject<'a>, Failure>
+    ensures { ReadsSubjectBy (first_of (codes "site") (rows_in words.now)) (places_of places) (rows_in words.now) result }
 {
     match given(words, "site") {
         Some(folder) => match beside_site(words, places) {
@@ -90,7 +134,8 @@ fn site_of(alloc: Global, folder: &str) -> Result<SiteFolder, AllocError>
 {
     let paths = paths_of(alloc, folder)?;
     let mounts = mounts_path(alloc, folder)?;
-    Ok(SiteFolder { paths, mounts })
+    let zfs = zfs_exports_path(alloc, folder)?;
+    Ok(SiteFolder { paths, mounts, zfs })
 }
 
 /// Returns the word of an argument, which stands at the place of the one before it if a folder is asked of.

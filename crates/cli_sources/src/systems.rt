@@ -37,7 +37,7 @@ pub fn read_systems<I: BufRead>(
     json: bool,
     words: &ArgMatches<'_>,
     subject: &Subject<'_>,
-    others: u32,
+    others: usize,
     input: &mut I,
 ) -> Result<Result<FileSystems, Printed>, Failure>
     ensures systems { ReadsSystems json subject.now (rows_in words.now) others (I.remaining input.old) result }
@@ -56,7 +56,7 @@ pub fn read_systems<I: BufRead>(
 fn read_by_words<I: BufRead>(
     rt: &HostRuntime,
     words: &ArgMatches<'_>,
-    others: u32,
+    others: usize,
     input: &mut I,
 ) -> Result<FileSystems, Failure>
     ensures systems { let rows = rows_in words.now in ReadsByWords (all_of (codes "MOUNT") rows) (first_of (codes "mounts") rows) others (I.remaining input.old) result }
@@ -78,7 +78,7 @@ fn read_by_words<I: BufRead>(
 fn read_mounts_file<I: BufRead>(
     rt: &HostRuntime,
     file: &str,
-    others: u32,
+    others: usize,
     input: &mut I,
 ) -> Result<FileSystems, Failure>
     ensures systems { ReadsMountsFile file.now others (I.remaining input.old) result }
@@ -92,7 +92,7 @@ fn read_mounts_file<I: BufRead>(
 }
 
 /// Tests whether a file is standard input, and one of the others is too.
-fn is_input_again(file: &str, others: u32) -> bool
+fn is_input_again(file: &str, others: usize) -> bool
     ensures { result ≡ spec.is_input_again file.now others }
 {
     inputs(file) == 1 && others > 0
@@ -114,6 +114,7 @@ fn read_folder<I: BufRead>(
             let source = Source {
                 path: folder.paths.filesystems.as_str(),
                 text: text.as_str(),
+                origins: &[],
             };
             Ok(read_listed(rt.alloc(), json, source)?)
         }

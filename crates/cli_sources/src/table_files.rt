@@ -9,7 +9,7 @@ ghost use Rattle.cli_files.specs.Files.{Leaves, ReadsIfGiven, ReadsInTurn, is_in
 ghost use Rattle.cli_words.specs.Words.{rows_in};
 ghost use Rattle.cli_sources.specs.InTurn.{ReadsTo};
 ghost use Rattle.cli_sources.specs.TableFiles as spec;
-ghost use Rattle.cli_sources.specs.TableFiles.{IsShort, given_path, input_count, named, paths_in, table_list, texts_in};
+ghost use Rattle.cli_sources.specs.TableFiles.{IsPlain, IsShort, given_path, input_count, named, paths_in, table_list, texts_in};
 
 use clap::ArgMatches;
 use cli_files::files::{is_input, read_if_given, read_or_empty};
@@ -171,6 +171,7 @@ pub fn table_sources<'a>(
 ) -> PerTable<Source<'a>>
     ensures paths { paths_in (table_list result) ≡ map given_path (map named (table_list files.entry)) }
     ensures texts { texts_in (table_list result) ≡ map string_bytes (table_list texts.now) }
+    ensures plain { EachTable IsPlain result }
 {
     PerTable {
         hosts: source_of(files.hosts, texts.hosts.as_str()),
@@ -185,9 +186,18 @@ pub fn table_sources<'a>(
 pub fn source_of<'a>(file: TextFile<'a>, text: &'a str) -> Source<'a>
     ensures path { result.path.now ≡ unwrap_or (named file.entry).1 [] }
     ensures text { result.text.now ≡ text.entry.now }
+    ensures origins { result.origins.now ≡ [] }
 {
     match file.path {
-        Some(path) => Source { path, text },
-        None => Source { path: "", text },
+        Some(path) => Source {
+            path,
+            text,
+            origins: &[],
+        },
+        None => Source {
+            path: "",
+            text,
+            origins: &[],
+        },
     }
 }

@@ -1,17 +1,18 @@
 //! The files of two texts and of the tables beside them.
 
-ghost use Rattle.std.specs.Prelude.{◌≡◌, IfOk, map};
-ghost use Rattle.std.specs.Result.{result_map_both};
+ghost use Rattle.std.specs.Prelude.{◌≡◌, ℕ, IfOk, List, Ok, Option};
 ghost use Rattle.desk_text.specs.Lines.{IsReadable};
 ghost use Rattle.desk_findings.specs.CheckFaults.{AreReadable};
-ghost use Rattle.cli_files.specs.Files.{ReadsFiles, name_input_twice};
-ghost use Rattle.cli_sources.specs.TableFiles.{given_path, input_count, named, paths_in, texts_in};
-ghost use Rattle.cli_sources.specs.TwoFiles.{AreAllShort, file_list, two_list, two_texts, whole_first, whole_second};
+ghost use Rattle.cli_files.specs.Files.{name_input_twice};
+ghost use Rattle.cli_sources.specs.TableFiles.{input_count};
+ghost use Rattle.cli_sources.specs.TwoFiles.{AreAllShort, AreReadTwo, ReadsTwoTexts, files_of_two, whole_first, whole_second};
 
+use crate::exports_files::read_exports;
 use crate::table_files::{TextFile, file_inputs, read_file, read_tables, source_of, table_sources};
-use crate::whole_files::{WholeFiles, whole_inputs};
+use crate::whole_files::{WholeFiles, exports_source, whole_inputs};
 use cli_output::failure::Failure;
 use desk_findings::{Source, WholeSources};
+use desk_joined::Joined;
 use desk_policy::PerTable;
 use std::io::BufRead;
 
@@ -26,7 +27,8 @@ pub struct TwoFiles<'a> {
 #[derive(Drop)]
 pub struct TwoTexts {
     pub tables: PerTable<String>,
-    pub first: String,
+    /// The first exports text, which may be several that are read as one.
+    pub first: Joined,
     pub second: String,
 }
 
@@ -61,26 +63,26 @@ impl<'a> TwoSources<'a> {
 }
 
 /// Counts the files that are standard input.
-pub fn two_inputs(files: TwoFiles<'_>) -> u32
-    ensures { result ≡ input_count (map named (file_list files.entry)) }
+pub fn two_inputs(files: TwoFiles<'_>) -> usize
+    ensures { result ≡ input_count (files_of_two files.entry) }
 {
-    whole_inputs(files.whole) + file_inputs(files.second)
+    whole_inputs(files.whole) + file_inputs(files.second) as usize
 }
 
-/// Reads the files of the tables, and then these two. At most one of them may be standard input.
+/// Reads the files of the tables, those of the first exports texts, and then the second. At most one of them may be standard input.
 pub fn read_two_texts<I: BufRead>(
     rt: &HostRuntime,
     files: TwoFiles<'_>,
     input: &mut I,
 ) -> Result<TwoTexts, Failure>
-    ensures texts { ReadsFiles (map named (file_list files.entry)) (I.remaining input.old) (result_map_both two_texts (λ failure. failure) result) }
+    ensures texts { ReadsTwoTexts (files_of_two files.entry) (I.remaining input.old) result }
     ensures short { IfOk result AreAllShort }
 {
     if names_input_twice(files) {
         return Err(Failure::InputTwice);
     }
     let tables = read_tables(rt, files.whole.tables, input)?;
-    let first = read_file(rt, files.whole.exports, input)?;
+    let first = read_exports(rt, files.whole.exports, files.whole.more, input)?;
     let second = read_file(rt, files.second, input)?;
     Ok(TwoTexts {
         tables,
@@ -91,7 +93,7 @@ pub fn read_two_texts<I: BufRead>(
 
 /// Tests whether more than one of these files is to be standard input.
 fn names_input_twice(files: TwoFiles<'_>) -> bool
-    ensures { result ≡ name_input_twice (map named (file_list files.entry)) }
+    ensures { result ≡ name_input_twice (files_of_two files.entry) }
 {
     1 < two_inputs(files)
 }
@@ -99,15 +101,14 @@ fn names_input_twice(files: TwoFiles<'_>) -> bool
 /// Lends the texts with the paths of their files.
 pub fn two_sources<'a>(files: TwoFiles<'a>, texts: &'a TwoTexts) -> TwoSources<'a>
     requires { AreAllShort texts.now }
-    ensures paths { paths_in (two_list result) ≡ map given_path (map named (file_list files.entry)) }
-    ensures texts { texts_in (two_list result) ≡ two_texts texts.now }
+    ensures are { (known : Option (List ℕ)) → ReadsTwoTexts (files_of_two files.entry) known (Ok texts.now) → AreReadTwo (files_of_two files.entry) known result }
     ensures tables { AreReadable result.tables }
     ensures first { IsReadable result.first.text.now }
     ensures second { IsReadable result.second.text.now }
 {
     TwoSources {
         tables: table_sources(files.whole.tables, &texts.tables),
-        first: source_of(files.whole.exports, texts.first.as_str()),
+        first: exports_source(files.whole.exports, &texts.first),
         second: source_of(files.second, texts.second.as_str()),
     }
 }

@@ -1,14 +1,13 @@
 //! What is asked of an exports text with its tables and of a second text: the file systems are read first, and then the files.
 
-ghost use Rattle.std.specs.Prelude.{List, Result, map};
+ghost use Rattle.std.specs.Prelude.{List, Result};
 ghost use Rattle.desk_text.specs.Lines.{IsReadable};
 ghost use Rattle.desk_tables.specs.declared.filesystems.Mount.{Mount};
 ghost use Rattle.desk_findings.specs.CheckFaults.{AreReadable};
 ghost use Rattle.cli_output.specs.declared.failure.Failure.{Failure};
 ghost use Rattle.cli_output.specs.declared.printed.Printed.{Printed};
 ghost use Rattle.cli_words.specs.Words.{rows_in};
-ghost use Rattle.cli_sources.specs.TableFiles.{named};
-ghost use Rattle.cli_sources.specs.TwoFiles.{file_list};
+ghost use Rattle.cli_sources.specs.TwoFiles.{files_of_two};
 ghost use Rattle.cli_sources.specs.TwoQuestion.{AnswersFiles, AnswersTwo};
 ghost use Rattle.cli_sources.specs.declared.two_files.TwoSources.{TwoSources};
 
@@ -87,7 +86,7 @@ fn answer_files<Q: TwoQuestion, I: BufRead>(
     files: TwoFiles<'_>,
     input: &mut I,
 ) -> Result<Printed, Failure>
-    ensures { AnswersFiles (Q.Answers question.now) (map named (file_list files.entry)) (I.remaining input.old) filesystems.now result }
+    ensures { AnswersFiles (Q.Answers question.now) (files_of_two files.entry) (I.remaining input.old) filesystems.now result }
 {
     let texts = read_two_texts(rt, files, input)?;
     let sources = two_sources(files, &texts);

@@ -1,6 +1,6 @@
 //! What is asked of an exports text with its tables: the file systems are read first, and then the files.
 
-ghost use Rattle.std.specs.Prelude.{List, Result, map};
+ghost use Rattle.std.specs.Prelude.{List, Result};
 ghost use Rattle.desk_text.specs.Lines.{IsReadable};
 ghost use Rattle.desk_tables.specs.declared.filesystems.Mount.{Mount};
 ghost use Rattle.desk_findings.specs.CheckFaults.{AreReadable};
@@ -8,8 +8,7 @@ ghost use Rattle.desk_findings.specs.declared.check_text.WholeSources.{WholeSour
 ghost use Rattle.cli_output.specs.declared.failure.Failure.{Failure};
 ghost use Rattle.cli_output.specs.declared.printed.Printed.{Printed};
 ghost use Rattle.cli_words.specs.Words.{rows_in};
-ghost use Rattle.cli_sources.specs.TableFiles.{named};
-ghost use Rattle.cli_sources.specs.WholeFiles.{file_list};
+ghost use Rattle.cli_sources.specs.WholeFiles.{files_of};
 ghost use Rattle.cli_sources.specs.WholeQuestion.{AnswersFiles, AnswersWhole};
 
 use crate::subject::Subject;
@@ -68,7 +67,7 @@ fn answer_files<Q: WholeQuestion, I: BufRead>(
     files: WholeFiles<'_>,
     input: &mut I,
 ) -> Result<Printed, Failure>
-    ensures { AnswersFiles (Q.Answers question.now) (map named (file_list files.entry)) (I.remaining input.old) filesystems.now result }
+    ensures { AnswersFiles (Q.Answers question.now) (files_of files.entry) (I.remaining input.old) filesystems.now result }
 {
     let texts = read_whole_texts(rt, files, input)?;
     let sources = whole_sources(files, &texts);

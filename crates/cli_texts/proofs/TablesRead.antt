@@ -9,6 +9,7 @@ use Rattle.desk_tables.specs.declared.credentials.Cred.{Cred}
 use Rattle.desk_tables.specs.declared.filesystems.Mount.{Mount}
 use Rattle.desk_tables.specs.declared.groups.Group.{Group}
 use Rattle.desk_tables.specs.declared.users.User.{User}
+use Rattle.desk_policy.specs.Parsing.{read_of}
 use Rattle.desk_policy.specs.PerTable.{map_tables}
 use Rattle.desk_policy.specs.View.{IsFaultOf}
 use Rattle.desk_policy.specs.declared.parsing.SiteTables.{SiteTables}
@@ -35,7 +36,7 @@ own_read word sources tables own known answers =
 -- the fault of a table is that of the text
 pub table_fault : {T : Type 0} (Gives : T → Type 0) (sources : WholeSources) (table : List Mount) (error : ReadError SiteFault) → Reads {X = SiteTables} (Err error) (tables_of sources.tables) → GivesOrFault Gives (policy_of sources table) (Err error)
 table_fault Gives sources table (Fault fault) faulty =
-    subst (λ (tables : Result SiteTables SiteFault). IsFaultOf (policy_with tables table sources.exports.text.now) fault) (sym faulty) refl
+    subst (λ (tables : Result SiteTables SiteFault). IsFaultOf (read_of sources.exports.origins.now (policy_with tables table sources.exports.text.now)) fault) (sym faulty) refl
 table_fault Gives sources table Memory faulty = tt
 
 -- the fault of a text is printed

@@ -5,7 +5,7 @@ use Rattle.desk_text.specs.declared.reading.ReadError.TheVariants.{Fault, Memory
 use Rattle.desk_tables.specs.declared.filesystems.Mount.{Mount}
 use Rattle.desk_exports.specs.declared.profile.Profile.TheVariants.{Two}
 use Rattle.desk_policy.specs.Contradiction.{HasNoContradiction}
-use Rattle.desk_policy.specs.Parsing.{read_whole_with, without_warnings}
+use Rattle.desk_policy.specs.Parsing.{read_of, read_whole_with, without_warnings}
 use Rattle.desk_policy.specs.Policy.{Content, with_warnings}
 use Rattle.desk_policy.specs.View.{Builds, IsFaultOf, IsLeastContradiction, WarningsChangeNoAnswer}
 use Rattle.desk_policy.specs.declared.parsing.SiteTables.{SiteTables}
@@ -28,7 +28,7 @@ viewed law in_force read policy (Err (Fault fault)) is least = least_too law rea
 viewed law in_force read policy (Err Memory) is builds = tt
 
 -- what is read of these texts, by their tables, which were read before, and the same file systems
-pub read_known : (sources : WholeSources) (table own : List Mount) (tables : SiteTables) → tables_of sources.tables ≡ Ok tables → own ≡ table → policy_of sources table ≡ read_whole_with Two tables own sources.exports.text.now
+pub read_known : (sources : WholeSources) (table own : List Mount) (tables : SiteTables) → tables_of sources.tables ≡ Ok tables → own ≡ table → policy_of sources table ≡ read_of sources.exports.origins.now (read_whole_with Two tables own sources.exports.text.now)
 read_known sources table own tables known same =
-    ap (λ (read : Result SiteTables SiteFault). policy_with read table sources.exports.text.now) known
-    ∙ ap (λ (mounts : List Mount). read_whole_with Two tables mounts sources.exports.text.now) (sym same)
+    ap (λ (read : Result SiteTables SiteFault). read_of sources.exports.origins.now (policy_with read table sources.exports.text.now)) known
+    ∙ ap (λ (mounts : List Mount). read_of sources.exports.origins.now (read_whole_with Two tables mounts sources.exports.text.now)) (sym same)

@@ -24,8 +24,8 @@ use Rattle.cli_texts.specs.FindingsForm.{ReportsBy}
 use Rattle.cli_texts.specs.IgnoredNumbers.{ReadsIgnored}
 use Rattle.cli_sources.specs.Subject.{ReadsSubject, places}
 use Rattle.cli_sources.specs.Systems.{AfterSystems, files_of}
-use Rattle.cli_sources.specs.TableFiles.{ReadsSources, input_count}
-use Rattle.cli_sources.specs.WholeFiles.{whole_files, whole_list}
+use Rattle.cli_sources.specs.TableFiles.{input_count}
+use Rattle.cli_sources.specs.WholeFiles.{ReadsWhole, whole_files}
 use Rattle.cli_texts.specs.declared.check_site_files.CheckAsked.{CheckAsked}
 use Rattle.cli_texts.specs.declared.findings_form.FindingsForm.{FindingsForm}
 use Rattle.cli_sources.specs.declared.subject.SiteFolder.{SiteFolder}
@@ -65,7 +65,7 @@ AnswersTexts opinions form ignored table sources result = AnswersFound (Gathers 
 
 -- the answer with these file systems: the files are read after them
 abbrev pub AnswersByFiles : List Row → Option (List ℕ) → List (List ℕ × Option (List ℕ)) → Option (List ℕ) → List Mount → Result Printed Failure → Type 0
-AnswersByFiles rows ignored files known table result = After (ReadsSources whole_list files known) (AnswersTexts (asks_opinions rows) (form_of rows) ignored table) result
+AnswersByFiles rows ignored files known table result = After (ReadsWhole files known) (AnswersTexts (asks_opinions rows) (form_of rows) ignored table) result
 
 -- the answer about a file: MOUNT or `--mounts` has to be given
 abbrev pub AnswersGiven : Subject → List Row → Option (List ℕ) → List (List ℕ × Option (List ℕ)) → Option (List ℕ) → Result Printed Failure → Type 0
@@ -77,7 +77,7 @@ AnswersFolderTexts asked systems sources result = AnswersFound (GathersFolder as
 
 -- the file systems of a folder, with the path of their text
 abbrev pub AreSystems : SiteFolder → FolderSystems → Systems → Type 0
-AreSystems folder (folder_systems.Listed text) (Listed source) = (source.path.now ≡ string_bytes folder.paths.filesystems) × (source.text.now ≡ string_bytes text)
+AreSystems folder (folder_systems.Listed text) (Listed source) = (source.path.now ≡ string_bytes folder.paths.filesystems) × (source.text.now ≡ string_bytes text) × (source.origins.now ≡ [])
 AreSystems folder (folder_systems.Mounted table) (Mounted made) = made ≡ table
 AreSystems folder systems made = ⊥
 
@@ -89,12 +89,12 @@ pub record AnswersSystems (asked : CheckAsked) (folder : SiteFolder) (systems : 
 
 -- the answer by the file systems of a folder: the other files are read after them
 abbrev pub AnswersFolder : CheckAsked → SiteFolder → FolderSystems → List (List ℕ × Option (List ℕ)) → Option (List ℕ) → Result Printed Failure → Type 0
-AnswersFolder asked folder systems files known result = After (ReadsSources whole_list files known) (AnswersSystems asked folder systems) result
+AnswersFolder asked folder systems files known result = After (ReadsWhole files known) (AnswersSystems asked folder systems) result
 
 -- the source of the custodians, if they are there
 abbrev pub AreCustodians : SiteFolder → Option (List ℕ) → Option Source → Type 0
 AreCustodians folder None None = Unit {0}
-AreCustodians folder (Some text) (Some source) = (source.path.now ≡ string_bytes folder.paths.custodians) × (source.text.now ≡ text)
+AreCustodians folder (Some text) (Some source) = (source.path.now ≡ string_bytes folder.paths.custodians) × (source.text.now ≡ text) × (source.origins.now ≡ [])
 AreCustodians folder text source = ⊥
 
 -- the text of the custodians, if they are there, or why they have none

@@ -14,9 +14,9 @@ use Rattle.cli_output.specs.declared.printed.Printed.{Printed}
 use Rattle.cli_texts.specs.FaultLine.{fault_line}
 use Rattle.cli_texts.specs.WholeTables.{policy_of}
 
--- a fault of these texts in a line; or, if JSON is asked, the list that has its finding alone, as `check --json` prints it
+-- a fault of these texts in a line, which names its exports text, if several are read as one; or, if JSON is asked, the list that has its finding alone, as `check --json` prints it
 abbrev pub TellsFault : Bool → WholeSources → List Mount → SiteFault → List ℕ → Type 0
-TellsFault false sources table fault text = text ≡ fault_line fault ++ 10 ∷ []
+TellsFault false sources table fault text = text ≡ fault_line sources.exports.origins.now fault ++ 10 ∷ []
 TellsFault true sources table fault text = ListsFault sources table fault text
 
 -- this fault is printed so, and standard error shows it as `check` does

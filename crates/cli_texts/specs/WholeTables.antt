@@ -5,7 +5,7 @@ use Rattle.desk_text.specs.declared.reading.ReadError.TheVariants.{Fault, Memory
 use Rattle.desk_tables.specs.declared.filesystems.Mount.{Mount}
 use Rattle.desk_exports.specs.declared.profile.Profile.TheVariants.{Two}
 use Rattle.desk_policy.specs.Contradiction.{HasNoContradiction}
-use Rattle.desk_policy.specs.Parsing.{read_whole_with, without_warnings}
+use Rattle.desk_policy.specs.Parsing.{read_of, read_whole_with, without_warnings}
 use Rattle.desk_policy.specs.Policy.{Content}
 use Rattle.desk_policy.specs.View.{IsFaultOf}
 use Rattle.desk_policy.specs.declared.parsing.SiteTables.{SiteTables}
@@ -19,9 +19,9 @@ abbrev pub policy_with : Result SiteTables SiteFault → List Mount → List ℕ
 policy_with (Ok tables) table text = read_whole_with Two tables table text
 policy_with (Err fault) table text = Err fault
 
--- the same of these texts
+-- the same of these texts; if several exports texts were read as one, the lines are of those
 abbrev pub policy_of : WholeSources → List Mount → Result Content SiteFault
-policy_of sources table = policy_with (tables_of sources.tables) table sources.exports.text.now
+policy_of sources table = read_of sources.exports.origins.now (policy_with (tables_of sources.tables) table sources.exports.text.now)
 
 -- An exports text is read as this policy, but for its warnings, and it has no contradiction.
 abbrev pub Writes : Result Content SiteFault → Content → Type 0

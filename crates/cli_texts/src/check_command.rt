@@ -1,6 +1,6 @@
 //! The command `check`: every fault and warning of an exports text and its tables, or of a site's files.
 
-ghost use Rattle.std.specs.Prelude.{◌≡◌, ◌++◌, ◌∷◌, [], IfOk, codes, if◌then◌else◌, map};
+ghost use Rattle.std.specs.Prelude.{◌≡◌, ◌++◌, ◌∷◌, [], IfOk, codes, if◌then◌else◌};
 ghost use Rattle.std.specs.Option.{option_map};
 ghost use Rattle.std.specs.String.{string_bytes};
 ghost use Rattle.desk_text.specs.Lines.{IsReadable};
@@ -8,8 +8,7 @@ ghost use Rattle.desk_findings.specs.CheckFaults.{AreReadable};
 ghost use Rattle.desk_findings.specs.Finding.{HaveSlices};
 ghost use Rattle.cli_words.specs.Words.{rows_in};
 ghost use Rattle.cli_texts.specs.CheckCommand.{AnswersByFiles, AnswersCheck, AnswersCheckBy, AnswersGiven, AnswersHeard, AnswersSubject, AnswersTexts, PrintsFindings, asks_opinions, beside_sarif, form_of};
-ghost use Rattle.cli_sources.specs.TableFiles.{named};
-ghost use Rattle.cli_sources.specs.WholeFiles.{file_list};
+ghost use Rattle.cli_sources.specs.WholeFiles.{files_of};
 
 use crate::check_site_files::check_site;
 use crate::findings_form::{FindingsForm, report_by};
@@ -147,7 +146,7 @@ fn check_given<I: BufRead>(
     files: WholeFiles<'_>,
     input: &mut I,
 ) -> Result<Printed, Failure>
-    ensures { AnswersGiven subject.now (rows_in words.now) (option_map (λ numbers. numbers.now) ignored.entry) (map named (file_list files.entry)) (I.remaining input.old) result }
+    ensures { AnswersGiven subject.now (rows_in words.now) (option_map (λ numbers. numbers.now) ignored.entry) (files_of files.entry) (I.remaining input.old) result }
 {
     let others = whole_inputs(files);
     let systems = read_systems(rt, false, words, subject, others, input)?;
@@ -166,7 +165,7 @@ fn check_files<I: BufRead>(
     files: WholeFiles<'_>,
     input: &mut I,
 ) -> Result<Printed, Failure>
-    ensures { AnswersByFiles (rows_in words.now) (option_map (λ numbers. numbers.now) ignored.entry) (map named (file_list files.entry)) (I.remaining input.old) filesystems result }
+    ensures { AnswersByFiles (rows_in words.now) (option_map (λ numbers. numbers.now) ignored.entry) (files_of files.entry) (I.remaining input.old) filesystems result }
 {
     let texts = read_whole_texts(rt, files, input)?;
     check_texts(

@@ -1,6 +1,6 @@
 //! The command `check --site DIR`: every fault and warning of the files in a site's folder, of which some may be missing.
 
-ghost use Rattle.std.specs.Prelude.{◌≡◌, ◌≢◌, ◌≤◌, IfOk, IfSome, codes, length, map};
+ghost use Rattle.std.specs.Prelude.{◌≡◌, ◌≢◌, ◌≤◌, codes, IfOk, IfSome, length};
 ghost use Rattle.std.specs.Option.{option_map};
 ghost use Rattle.std.specs.Result.{result_map_both};
 ghost use Rattle.std.specs.String.{string_bytes};
@@ -9,8 +9,7 @@ ghost use Rattle.desk_findings.specs.CheckFaults.{AreReadable};
 ghost use Rattle.desk_findings.specs.CheckFolder.{AreReadableSystems, IsReadableIfThere, systems_of};
 ghost use Rattle.cli_files.specs.FolderSystems.{AreShort};
 ghost use Rattle.cli_texts.specs.CheckCommand.{AnswersFolder, AnswersFolderTexts, AnswersSite, AreCustodians, ReadsCustodians};
-ghost use Rattle.cli_sources.specs.TableFiles.{named};
-ghost use Rattle.cli_sources.specs.WholeFiles.{file_list};
+ghost use Rattle.cli_sources.specs.WholeFiles.{files_of};
 
 use crate::check_command::print_findings;
 use crate::findings_form::FindingsForm;
@@ -36,7 +35,7 @@ pub fn check_site<I: BufRead>(
     files: WholeFiles<'_>,
     input: &mut I,
 ) -> Result<Printed, Failure>
-    ensures { AnswersSite opinions form (option_map (λ numbers. numbers.now) ignored.entry) folder.now (map named (file_list files.entry)) (I.remaining input.old) result }
+    ensures { AnswersSite opinions form (option_map (λ numbers. numbers.now) ignored.entry) folder.now (files_of files.entry) (I.remaining input.old) result }
 {
     let kept = read_custodians(rt, folder, input)?;
     let systems = read_systems(rt, "--site", systems_files(folder), input)?;
@@ -72,6 +71,7 @@ fn custodians_of<'a>(folder: &'a SiteFolder, text: &'a Option<String>) -> Option
         Some(text) => Some(Source {
             path: folder.paths.custodians.as_str(),
             text: text.as_str(),
+            origins: &[],
         }),
         None => None,
     }
@@ -97,7 +97,7 @@ fn check_folder<I: BufRead>(
 ) -> Result<Printed, Failure>
     requires custodians { IsReadableIfThere asked.custodians }
     requires short { AreShort systems }
-    ensures { AnswersFolder asked.entry folder.now systems (map named (file_list files.entry)) (I.remaining input.old) result }
+    ensures { AnswersFolder asked.entry folder.now systems (files_of files.entry) (I.remaining input.old) result }
 {
     let texts = read_whole_texts(rt, files, input)?;
     let whole = whole_sources(files, &texts);
@@ -109,6 +109,7 @@ fn check_folder<I: BufRead>(
             let source = Source {
                 path: folder.paths.filesystems.as_str(),
                 text: text.as_str(),
+                origins: &[],
             };
             check_texts(rt.alloc(), asked, Systems::Listed(source), whole)
         }

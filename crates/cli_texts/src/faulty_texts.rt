@@ -74,6 +74,6 @@ fn told_fault(
         let own = filesystems.share()?;
         Ok(fault_json(alloc, sources, own, fault)?)
     } else {
-        Ok(end_line(fault_text(alloc, fault)?)?)
+        Ok(end_line(fault_text(alloc, sources.exports.origins, fault)?)?)
     }
 }

@@ -6,7 +6,7 @@ ghost use Rattle.desk_text.specs.Lines.{IsReadable};
 ghost use Rattle.cli_files.specs.Files.{ReadsFiles, name_input_twice};
 ghost use Rattle.cli_words.specs.Words.{rows_in};
 ghost use Rattle.cli_texts.specs.SplitCommand.{AnswersSplit, AnswersTexts, AreBothShort, PrintsSplitFault, split_files, split_list, split_texts};
-ghost use Rattle.cli_sources.specs.TableFiles.{given_path, paths_in, texts_in};
+ghost use Rattle.cli_sources.specs.TableFiles.{given_path, no_origins, origins_in, paths_in, texts_in};
 
 use crate::printing::print_alone;
 use crate::split_text::split_text;
@@ -83,6 +83,7 @@ fn split_sources<'a>(file: &'a str, filesystems: &'a str, texts: &'a SplitTexts)
     requires { AreBothShort texts.now }
     ensures paths { paths_in (split_list result) ≡ map given_path (split_files file.entry.now filesystems.entry.now) }
     ensures texts { texts_in (split_list result) ≡ split_texts texts.now }
+    ensures plain { origins_in (split_list result) ≡ map no_origins (split_files file.entry.now filesystems.entry.now) }
     ensures file { IsReadable result.file.text.now }
     ensures filesystems { IsReadable result.filesystems.text.now }
 {
@@ -90,10 +91,12 @@ fn split_sources<'a>(file: &'a str, filesystems: &'a str, texts: &'a SplitTexts)
         file: Source {
             path: file,
             text: texts.file.as_str(),
+            origins: &[],
         },
         filesystems: Source {
             path: filesystems,
             text: texts.filesystems.as_str(),
+            origins: &[],
         },
     }
 }

@@ -19,7 +19,7 @@ use cli_verdict::try_text::try_text;
 use cli_verdict::{Asking, MountQuestion, print_tried, read_asking};
 use cli_words::values::{Request, read_credential, read_credential_with, read_request};
 use cli_words::words::{given, is_set};
-use desk_findings::{WholeSources, read_sources};
+use desk_findings::{Source, WholeSources, read_sources};
 use desk_policy::{SiteFault, SiteTables};
 use desk_tables::{Cred, FileSystems};
 use desk_text::ReadError;
@@ -212,6 +212,7 @@ fn decide(
         asking: asked.asking,
         json: asked.json,
     };
-    let tried = try_text(alloc, sources.exports.text, tables, filesystems, question)?;
+    let Source { text, origins, .. } = sources.exports;
+    let tried = try_text(alloc, text, origins, tables, filesystems, question)?;
     Ok(print_tried(tried))
 }

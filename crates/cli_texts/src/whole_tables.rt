@@ -7,7 +7,7 @@ ghost use Rattle.cli_texts.specs.WholeTables.{GivesOrFault, Writes, policy_of};
 
 use crate::View;
 use desk_exports::Profile;
-use desk_findings::WholeSources;
+use desk_findings::{Source, WholeSources};
 use desk_policy::{
     PolicyView, SiteFault, SiteTables, parse_whole_without_warnings, warnings_change_no_answer,
 };
@@ -28,8 +28,8 @@ pub fn view_of(
     ensures { let read = policy_of sources.entry filesystems.now in GivesOrFault (Writes read) read result }
 {
     let own = filesystems.share()?;
-    let text = sources.exports.text;
-    let policy = parse_whole_without_warnings(alloc, Profile::Two, text, own, tables)?;
+    let Source { text, origins, .. } = sources.exports;
+    let policy = parse_whole_without_warnings(alloc, Profile::Two, text, origins, own, tables)?;
     // No verdict and no fault rests on the warnings, which are left out.
     warnings_change_no_answer();
     View::build(alloc, policy)

@@ -7,7 +7,7 @@ use Rattle.desk_policy.specs.declared.verdict.Denial.{Denial}
 use Rattle.desk_who.specs.Runs.{Run}
 use Rattle.desk_who.specs.Who.{IsWho}
 use Rattle.desk_who.specs.WhoPrints.{who_text}
-use Rattle.desk_http_bodies.specs.Ranges.{who_data}
+use Rattle.desk_json.specs.Named.{named_who}
 use Rattle.desk_server_prints.specs.LeftOutNote.{TellsLeftOut}
 use Rattle.desk_server_prints.specs.Listing.{IsServerWho, TellsFirst}
 use Rattle.cli_output.specs.Printed.{Prints}
@@ -17,7 +17,7 @@ use Rattle.cli_verdict.specs.ObjectLine.{data_line}
 -- the ranges of the verdicts on a path: in lines, or as one object, if JSON is asked
 abbrev pub ranges_text : Bool → Content → List (List ℕ) → List (Run (Result Grant Denial)) → List ℕ
 ranges_text false content path ranges = who_text content ranges
-ranges_text true content path ranges = data_line (who_data content path ranges)
+ranges_text true content path ranges = data_line (named_who content path ranges)
 
 -- The ranges of the verdicts of this desk are printed; and beside them to which client first the server grants what is denied.
 pub record PrintsHere (json : Bool) (content : Content) (path : List (List ℕ)) (printed : Printed) : Type 0 where

@@ -18,7 +18,7 @@ use Rattle.desk_server.specs.Server.{server_verdict_of}
 use Rattle.desk_server_prints.specs.LeftOutNote.{TellsLeftOut}
 use Rattle.desk_server_prints.specs.GrantingLine.{wider_line, wider_note}
 use Rattle.desk_why.specs.WhyPrints.{why_text}
-use Rattle.desk_http_bodies.specs.Verdicts.{verdict_data}
+use Rattle.desk_json.specs.Named.{named_verdict}
 use Rattle.desk_json.specs.Why.{why_data}
 use Rattle.cli_output.specs.Printed.{Prints}
 use Rattle.cli_output.specs.ShownLines.{shown_lines}
@@ -62,7 +62,7 @@ lines_text reasons content own verdict = verdict_line content verdict ++ acting_
 
 -- a verdict as an object, with these reasons as a member of it
 abbrev pub object_of : Option (List ℕ) → Content → Option Cred → Result Grant Denial → Data
-object_of None content own verdict = verdict_data content own verdict
+object_of None content own verdict = named_verdict content own verdict
 object_of (Some reasons) content own verdict = why_data content own verdict reasons
 
 -- a verdict with these reasons: in lines, or as one object, if JSON is asked
@@ -92,7 +92,7 @@ reasons_of tables content question = reasons_if question.asking tables content q
 pub record TellsVerdict (reasons : Option (List ℕ)) (content : Content) (question : MountQuestion) (tried : Tried) : Type 0 where
   pub answer : answer_of tried ≡ answer_with question.json reasons content question.own (verdict_of content question.address question.path)
   pub beside : string_bytes tried.note
-      ≡ wider_note (wider_line (verdict_of content question.address question.path) (server_verdict_of content question.address question.path))
+      ≡ wider_note content.origins (wider_line (verdict_of content question.address question.path) (server_verdict_of content question.address question.path))
 
 -- the same by a policy and the tables that it was read with: with the reasons, if they are asked
 abbrev pub AnswersHere : SiteTables → Content → MountQuestion → Tried → Type 0

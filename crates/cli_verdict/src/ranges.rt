@@ -7,8 +7,8 @@ ghost use Rattle.cli_verdict.specs.Ranges.{PrintsHere, PrintsRanges, PrintsThere
 
 use crate::object_lines::object_line;
 use cli_output::printed::Printed;
-use desk_http_bodies::who_body;
 use desk_index::Index;
+use desk_json::who_object;
 use desk_policy::{Policy, PolicyView};
 use desk_server_prints::{first_wider_note, left_out_note, server_who};
 use desk_text::Path;
@@ -16,7 +16,7 @@ use desk_who::{Range, who, who_text};
 use std::alloc::{AllocError, Global};
 
 /// Prints the verdict of every address on a path by ranges, by the rule of this desk or by that of mountd(8): each range in a line, or
-/// all as one object, as the body of HTTP has it.
+/// all as one object, which names the file of each line, if several texts were read as one.
 pub fn print_ranges(
     alloc: Global,
     index: &Index,
@@ -72,7 +72,7 @@ fn ranges_text(
     ensures { IfOk result (λ text. string_bytes text ≡ ranges_text json policy.now path.now (map range_value ranges.now)) }
 {
     if json {
-        let object = who_body(alloc, policy, path, ranges)?;
+        let object = who_object(alloc, policy, path, ranges)?;
         object_line(alloc, object.as_str())
     } else {
         who_text(alloc, policy, ranges)

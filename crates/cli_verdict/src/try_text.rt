@@ -5,7 +5,7 @@ ghost use Rattle.std.specs.Option.{option_map};
 ghost use Rattle.std.specs.String.{string_bytes};
 ghost use Rattle.desk_text.specs.Lines.{IsReadable};
 ghost use Rattle.desk_exports.specs.declared.profile.Profile.TheVariants.{Two};
-ghost use Rattle.desk_policy.specs.Parsing.{read_whole_with};
+ghost use Rattle.desk_policy.specs.Parsing.{read_of, read_whole_with};
 ghost use Rattle.desk_policy.specs.Prints.{acting_text, verdict_line};
 ghost use Rattle.desk_policy.specs.Verdict.{verdict_result};
 ghost use Rattle.desk_why.specs.WhyPrints.{why_text};
@@ -17,9 +17,9 @@ use crate::object_lines::object_line;
 use cli_output::printed::Printed;
 use cli_output::shown_lines::shown_lines;
 use desk_exports::Profile;
-use desk_http_bodies::verdict_body;
 use desk_index::Index;
-use desk_json::why_object;
+use desk_json::{verdict_object, why_object};
+use desk_origins::Origin;
 use desk_policy::{
     Plain, Policy, PolicyView, SiteFault, SiteTables, Verdict, parse_whole_without_warnings,
     verdict_text, warnings_change_no_answer,
@@ -58,18 +58,27 @@ pub struct Tried {
 }
 
 /// Decides whether a client may mount a directory, by a whole exports text, read by profile 2 with these tables and these file
-/// systems; or returns the text's fault: its first faulty line, or else its least contradiction.
+/// systems; or returns the text's fault: its first faulty line, or else its least contradiction. If several texts were read as one, lines
+/// are named by them.
 pub fn try_text(
     alloc: Global,
     text: &str,
+    origins: &[Origin],
     site_tables: &SiteTables,
     filesystems: FileSystems,
     question: MountQuestion<'_>,
 ) -> Result<Tried, ReadError<SiteFault>>
     requires { IsReadable text.now }
-    ensures { Tries site_tables.now (read_whole_with Two site_tables.now filesystems text.now) (mount_question_of question.entry) result }
+    ensures { Tries site_tables.now (read_of origins.now (read_whole_with Two site_tables.now filesystems text.now)) (mount_question_of question.entry) result }
 {
-    let policy = parse_whole_without_warnings(alloc, Profile::Two, text, filesystems, site_tables)?;
+    let policy = parse_whole_without_warnings(
+        alloc,
+        Profile::Two,
+        text,
+        origins,
+        filesystems,
+        site_tables,
+    )?;
     // No answer rests on the warnings, which are left out.
     warnings_change_no_answer();
     answer_by(alloc, policy, site_tables, question)
@@ -254,7 +263,7 @@ fn object_text(
 {
     match reasons {
         Some(reasons) => why_object(alloc, policy, verdict, own, reasons),
-        None => verdict_body(alloc, policy, verdict, own),
+        None => verdict_object(alloc, policy, verdict, own),
     }
 }
 

@@ -60,6 +60,8 @@ pub commands_more : (app : App) (xs : List CommandRow) (i : ℕ) (d : CommandRow
 commands_more app xs i d within =
     ap (spec.with_commands app) (map_more row_of xs i d within) ∙ commands_in_turn app (map row_of (take i xs)) (row_of (get_or xs i d) ∷ [])
 
--- the words of a command, the options of tables, and its own options are added in turn
-pub all_in_turn : (app : App) (words tables options : List Rule) → with_rules app (words ++ tables ++ options) ≡ with_rules (with_rules (with_rules app words) tables) options
-all_in_turn app words tables options = rules_in_turn app (words ++ tables) options ∙ ap (λ a. with_rules a options) (rules_in_turn app words tables)
+-- the words of a command, the options that it shares, and its own options are added in turn
+pub all_in_turn : (app : App) (words tables more options : List Rule) → with_rules app (words ++ tables ++ more ++ options) ≡ with_rules (with_rules (with_rules (with_rules app words) tables) more) options
+all_in_turn app words tables more options =
+    rules_in_turn app (words ++ tables ++ more) options
+    ∙ ap (λ a. with_rules a options) (rules_in_turn app (words ++ tables) more ∙ ap (λ a. with_rules a more) (rules_in_turn app words tables))

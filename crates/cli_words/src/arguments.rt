@@ -1,6 +1,6 @@
 //! The arguments of a command, and how `clap` takes them.
 
-ghost use Rattle.cli_words.specs.Commands.{flag, option, optional_word, optional_words, required_option, rule_for, word};
+ghost use Rattle.cli_words.specs.Commands.{flag, option, optional_word, optional_words, repeated_option, required_option, rule_for, word};
 ghost use Rattle.cli_words.specs.PrivateLine.{IsArgument};
 
 use clap::{Arg, ArgAction};
@@ -19,6 +19,8 @@ pub enum Kind {
     Valued(&'static str),
     /// An option with one value that has to be given, which the help calls this.
     Needed(&'static str),
+    /// An option with one value that may be given more than once, which the help calls this.
+    Repeated(&'static str),
     /// An option without a value.
     Flag,
 }
@@ -42,6 +44,7 @@ pub(crate) fn made_argument<'a>(alloc: Global, argument: Argument) -> Arg<'a>
         Kind::MaybeWords => optional_words(alloc, name, help),
         Kind::Valued(value) => option(alloc, name, value, help),
         Kind::Needed(value) => required_option(alloc, name, value, help),
+        Kind::Repeated(value) => repeated_option(alloc, name, value, help),
         Kind::Flag => flag(alloc, name, help),
     }
 }
@@ -83,6 +86,13 @@ fn required_option<'a>(alloc: Global, name: &'a str, value: &'a str, help: &'a s
     ensures { IsArgument (required_option name.entry.now) result }
 {
     option(alloc, name, value, help).required(true)
+}
+
+/// Makes an option with one value that may be given more than once.
+fn repeated_option<'a>(alloc: Global, name: &'a str, value: &'a str, help: &'a str) -> Arg<'a>
+    ensures { IsArgument (repeated_option name.entry.now) result }
+{
+    option(alloc, name, value, help).action(ArgAction::Append)
 }
 
 /// Makes an option without a value.

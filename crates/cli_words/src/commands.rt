@@ -5,7 +5,7 @@
 ghost use Rattle.std.specs.Prelude.{◌≡◌, find, map};
 ghost use Rattle.std.specs.Option.{option_map};
 ghost use Rattle.std.specs.Str.{bytes_eq};
-ghost use Rattle.cli_words.specs.Commands.{command_named, commands, row_of, rule_for, table_options};
+ghost use Rattle.cli_words.specs.Commands.{command_named, commands, more_of, row_of, rule_for, tables_of};
 
 use crate::arguments::{Argument, Kind};
 
@@ -38,6 +38,17 @@ pub enum Subcommand {
     Serve,
 }
 
+/// Which options a command shares with others.
+#[derive(Clone, Copy)]
+pub enum Shared {
+    /// None.
+    Nothing,
+    /// Those that name the files of tables and of mount points, and a folder.
+    Tables,
+    /// These, and those that name more exports files.
+    Texts,
+}
+
 /// A command with its name, and what it takes.
 #[derive(Clone, Copy)]
 pub struct CommandRow {
@@ -45,8 +56,8 @@ pub struct CommandRow {
     pub name: &'static str,
     /// Its words, in their order.
     pub words: &'static [Argument],
-    /// Whether it takes the options that name the files of tables and of mount points, and a folder.
-    pub tables: bool,
+    /// Which options it shares with others.
+    pub shared: Shared,
     /// Its own options, in the order of its help.
     pub options: &'static [Argument],
 }
@@ -206,13 +217,30 @@ pub const TABLES: &[Argument] = &[
     },
 ];
 
+/// The options that name more exports files.
+const MORE: &[Argument] = &[
+    Argument {
+        name: "and",
+        kind: Kind::Repeated("FILE"),
+        help: "One more exports text, whose lines count behind those before it; up to 8 times",
+    },
+    Argument {
+        name: "zfs",
+        kind: Kind::Flag,
+        help: "Adds zfs/exports of the folder of --site",
+    },
+];
+
+/// No options.
+const NONE: &[Argument] = &[];
+
 /// The commands, in the order of the help.
 pub const COMMANDS: &[CommandRow] = &[
     CommandRow {
         command: Subcommand::Try,
         name: "try",
         words: &[GIVEN_FILE, GIVEN_HOST, GIVEN_DIR, GIVEN_MOUNTS],
-        tables: true,
+        shared: Shared::Texts,
         options: &[
             Argument {
                 name: "as",
@@ -235,14 +263,14 @@ pub const COMMANDS: &[CommandRow] = &[
                 help: "The file systems, each a line `MOUNT CUSTODIAN...`; - is standard input",
             },
         ],
-        tables: false,
+        shared: Shared::Nothing,
         options: &[],
     },
     CommandRow {
         command: Subcommand::Check,
         name: "check",
         words: &[GIVEN_FILE, GIVEN_MOUNTS],
-        tables: true,
+        shared: Shared::Texts,
         options: &[
             Argument {
                 name: "brief",
@@ -280,21 +308,21 @@ pub const COMMANDS: &[CommandRow] = &[
         command: Subcommand::Clients,
         name: "clients",
         words: &[GIVEN_FILE, GIVEN_CLIENTS_DIR, GIVEN_MOUNTS],
-        tables: true,
+        shared: Shared::Texts,
         options: &[MOUNTD, JSON],
     },
     CommandRow {
         command: Subcommand::Lists,
         name: "lists",
         words: &[GIVEN_FILE, GIVEN_HOST, GIVEN_MOUNTS],
-        tables: true,
+        shared: Shared::Texts,
         options: &[],
     },
     CommandRow {
         command: Subcommand::Terms,
         name: "terms",
         words: &[GIVEN_FILE, GIVEN_MOUNTS],
-        tables: true,
+        shared: Shared::Texts,
         options: &[],
     },
     CommandRow {
@@ -313,14 +341,14 @@ pub const COMMANDS: &[CommandRow] = &[
             },
             GIVEN_MOUNTS,
         ],
-        tables: true,
+        shared: Shared::Tables,
         options: &[ALL, JSON],
     },
     CommandRow {
         command: Subcommand::Test,
         name: "test",
         words: &[GIVEN_FILE, GIVEN_EXPECTATIONS, GIVEN_MOUNTS],
-        tables: true,
+        shared: Shared::Texts,
         options: &[BREACHES_JSON, BREACHES_SARIF],
     },
     CommandRow {
@@ -334,14 +362,14 @@ pub const COMMANDS: &[CommandRow] = &[
                 help: "The folder of the site's files",
             },
         ],
-        tables: false,
+        shared: Shared::Nothing,
         options: &[],
     },
     CommandRow {
         command: Subcommand::Ask,
         name: "ask",
         words: &[DB, HOST, DIR],
-        tables: false,
+        shared: Shared::Nothing,
         options: &[
             Argument {
                 name: "as",
@@ -357,14 +385,14 @@ pub const COMMANDS: &[CommandRow] = &[
         command: Subcommand::Show,
         name: "show",
         words: &[DB, HOST],
-        tables: false,
+        shared: Shared::Nothing,
         options: &[JSON],
     },
     CommandRow {
         command: Subcommand::Exports,
         name: "exports",
         words: &[DB],
-        tables: false,
+        shared: Shared::Nothing,
         options: &[
             Argument {
                 name: "terms",
@@ -378,7 +406,7 @@ pub const COMMANDS: &[CommandRow] = &[
         command: Subcommand::Who,
         name: "who",
         words: &[DB, CLIENTS_DIR],
-        tables: false,
+        shared: Shared::Nothing,
         options: &[MOUNTD, JSON],
     },
     CommandRow {
@@ -393,7 +421,7 @@ pub const COMMANDS: &[CommandRow] = &[
                 help: "The new text; - is standard input",
             },
         ],
-        tables: false,
+        shared: Shared::Nothing,
         options: &[
             Argument {
                 name: "proposal",
@@ -434,7 +462,7 @@ pub const COMMANDS: &[CommandRow] = &[
                 help: "The new text; - is standard input",
             },
         ],
-        tables: false,
+        shared: Shared::Nothing,
         options: &[
             ALL,
             Argument {
@@ -462,7 +490,7 @@ pub const COMMANDS: &[CommandRow] = &[
                 help: "That text; - is standard input",
             },
         ],
-        tables: false,
+        shared: Shared::Nothing,
         options: &[
             Argument {
                 name: "proposal",
@@ -477,14 +505,14 @@ pub const COMMANDS: &[CommandRow] = &[
         command: Subcommand::Log,
         name: "log",
         words: &[DB, NAME],
-        tables: false,
+        shared: Shared::Nothing,
         options: &[JSON],
     },
     CommandRow {
         command: Subcommand::Cat,
         name: "cat",
         words: &[DB, NAME],
-        tables: false,
+        shared: Shared::Nothing,
         options: &[
             Argument {
                 name: "rev",
@@ -498,21 +526,21 @@ pub const COMMANDS: &[CommandRow] = &[
         command: Subcommand::Proposal,
         name: "proposal",
         words: &[DB, NAME],
-        tables: false,
+        shared: Shared::Nothing,
         options: &[JSON],
     },
     CommandRow {
         command: Subcommand::Files,
         name: "files",
         words: &[DB],
-        tables: false,
+        shared: Shared::Nothing,
         options: &[JSON],
     },
     CommandRow {
         command: Subcommand::Report,
         name: "report",
         words: &[DB],
-        tables: false,
+        shared: Shared::Nothing,
         options: &[],
     },
     CommandRow {
@@ -526,7 +554,7 @@ pub const COMMANDS: &[CommandRow] = &[
                 help: "The folder, which has to be there",
             },
         ],
-        tables: false,
+        shared: Shared::Nothing,
         options: &[],
     },
     CommandRow {
@@ -540,14 +568,14 @@ pub const COMMANDS: &[CommandRow] = &[
                 help: "The file of the copy, which must not be there",
             },
         ],
-        tables: false,
+        shared: Shared::Nothing,
         options: &[],
     },
     CommandRow {
         command: Subcommand::Serve,
         name: "serve",
         words: &[DB],
-        tables: false,
+        shared: Shared::Nothing,
         options: &[
             Argument {
                 name: "port",
@@ -568,11 +596,24 @@ pub const COMMANDS: &[CommandRow] = &[
     },
 ];
 
-/// Lends the options that name the files of tables.
-pub fn table_options() -> &'static [Argument]
-    ensures { map rule_for result.now ≡ table_options }
+/// Lends the options that name the files of tables, if they are shared.
+pub fn table_options(shared: Shared) -> &'static [Argument]
+    ensures { map rule_for result.now ≡ tables_of shared }
 {
-    TABLES
+    match shared {
+        Shared::Tables | Shared::Texts => TABLES,
+        Shared::Nothing => NONE,
+    }
+}
+
+/// Lends the options that name more exports files, if they are shared.
+pub fn more_options(shared: Shared) -> &'static [Argument]
+    ensures { map rule_for result.now ≡ more_of shared }
+{
+    match shared {
+        Shared::Texts => MORE,
+        Shared::Nothing | Shared::Tables => NONE,
+    }
 }
 
 /// Lends the rows of the commands.

@@ -6,7 +6,7 @@ ghost use Rattle.cli_words.specs.Commands as spec;
 ghost use Rattle.cli_words.specs.PrivateLine.{IsCommand, IsMade, with_arguments, with_commands};
 
 use crate::arguments::{Argument, made_argument};
-use crate::commands::{CommandRow, command_rows, table_options};
+use crate::commands::{CommandRow, command_rows, more_options, table_options};
 use crate::help::help_of;
 use clap::Command;
 use std::alloc::{AllocError, Global};
@@ -38,12 +38,9 @@ fn command_of<'a>(alloc: Global, row: &CommandRow) -> Result<Command<'a>, AllocE
     ensures { IsMade (spec.app_of_row (spec.row_of row.now)) result }
 {
     let command = with_arguments(alloc, titled(alloc, row), row.words)?;
-    if row.tables {
-        let command = with_arguments(alloc, command, table_options())?;
-        with_arguments(alloc, command, row.options)
-    } else {
-        with_arguments(alloc, command, row.options)
-    }
+    let command = with_arguments(alloc, command, table_options(row.shared))?;
+    let command = with_arguments(alloc, command, more_options(row.shared))?;
+    with_arguments(alloc, command, row.options)
 }
 
 /// Makes a command that has neither arguments nor subcommands.

@@ -1,9 +1,6 @@
 -- The files are read first.
-use Rattle.std.proofs.Common.{Err, Ok, map, refl}
+use Rattle.std.proofs.Common.{Err, Ok, refl}
 use Rattle.std.proofs.lemmas.Result.{err_from_is_err_and}
-use Rattle.cli_sources.specs.TableFiles.{named}
-use Rattle.cli_sources.specs.WholeFiles.{file_list, whole_list, whole_texts}
-use Rattle.cli_sources.proofs.FilesInTurn.{lent}
 use Rattle.cli_sources.proofs.whole_question.answer_files.Goals as goal
 
 pub returns-in_err-texts : goal.returns-in_err-texts
@@ -16,6 +13,6 @@ returns g c =
     let sources = c.whole_sources-sources in
     record {
       step = Ok sources.result;
-      is = lent (map named (file_list c.args.files)) (g.I.Read.remaining c.args.input.now) (whole_texts c.in_ok-texts.texts) (whole_list sources.result) sources.ensures.paths sources.ensures.texts c.in_ok-texts.ensures.texts;
+      is = sources.ensures.are (g.I.Read.remaining c.args.input.now) c.in_ok-texts.ensures.texts;
       next = c.answer.ensures;
     }

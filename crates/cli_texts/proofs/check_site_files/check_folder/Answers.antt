@@ -1,10 +1,7 @@
 -- The other files are read first.
-use Rattle.std.proofs.Common.{Err, Ok, map, refl}
+use Rattle.std.proofs.Common.{Err, Ok, refl}
 use Rattle.std.proofs.lemmas.Result.{err_from_is_err_and}
 use Rattle.desk_findings.specs.CheckFolder.{Listed, Mounted}
-use Rattle.cli_sources.specs.TableFiles.{named}
-use Rattle.cli_sources.specs.WholeFiles.{file_list, whole_list, whole_texts}
-use Rattle.cli_sources.proofs.FilesInTurn.{lent}
 use Rattle.cli_texts.proofs.check_site_files.check_folder.Goals as goal
 
 pub returns-in_err-texts : goal.returns-in_err-texts
@@ -17,7 +14,7 @@ returns-in-Mounted g c =
     let sources = c.whole_sources-whole in
     record {
       step = Ok sources.result;
-      is = lent (map named (file_list c.args.files)) (g.I.Read.remaining c.args.input.now) (whole_texts c.in_ok-texts.texts) (whole_list sources.result) sources.ensures.paths sources.ensures.texts c.in_ok-texts.ensures.texts;
+      is = sources.ensures.are (g.I.Read.remaining c.args.input.now) c.in_ok-texts.ensures.texts;
       next = rw c.in-Mounted.is (record { made = Mounted c.in-Mounted.filesystems; are = refl; answers = c.check_texts.ensures });
     }
 
@@ -26,6 +23,6 @@ returns g c =
     let sources = c.whole_sources-whole in
     record {
       step = Ok sources.result;
-      is = lent (map named (file_list c.args.files)) (g.I.Read.remaining c.args.input.now) (whole_texts c.in_ok-texts.texts) (whole_list sources.result) sources.ensures.paths sources.ensures.texts c.in_ok-texts.ensures.texts;
-      next = rw c.in-Listed.is (record { made = Listed (record { path = c.as_str.result; text = c.as_str-in-Listed.result }); are = (c.as_str.ensures.value, c.as_str-in-Listed.ensures.value); answers = c.check_texts-in-Listed.ensures });
+      is = sources.ensures.are (g.I.Read.remaining c.args.input.now) c.in_ok-texts.ensures.texts;
+      next = rw c.in-Listed.is (record { made = Listed (record { path = c.as_str.result; text = c.as_str-in-Listed.result; origins = _ }); are = (c.as_str.ensures.value, c.as_str-in-Listed.ensures.value, refl); answers = c.check_texts-in-Listed.ensures });
     }

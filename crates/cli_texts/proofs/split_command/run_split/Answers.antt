@@ -18,6 +18,6 @@ returns g c =
     by_found _ _ _ _ _ c.in_ok-file.ensures (by_found _ _ _ _ _ c.in_ok-filesystems.ensures
     (record {
       step = Ok sources.result;
-      is = lent (split_files c.in_ok-file.file.now c.in_ok-filesystems.filesystems.now) (g.I.Read.remaining c.args.input.now) (split_texts c.in_ok-texts.texts) (split_list sources.result) sources.ensures.paths sources.ensures.texts c.in_ok-texts.ensures.texts;
+      is = lent (split_files c.in_ok-file.file.now c.in_ok-filesystems.filesystems.now) (g.I.Read.remaining c.args.input.now) (split_texts c.in_ok-texts.texts) (split_list sources.result) sources.ensures.paths sources.ensures.texts sources.ensures.plain c.in_ok-texts.ensures.texts;
       next = c.answer_texts.ensures;
     }))

@@ -4,7 +4,7 @@ use Rattle.std.proofs.lemmas.Result.{err_from_is_err_and}
 use Rattle.desk_text.specs.declared.reading.ReadError.{ReadError}
 use Rattle.desk_text.specs.declared.reading.ReadError.TheVariants.{Fault, Memory}
 use Rattle.desk_exports.specs.declared.profile.Profile.TheVariants.{Two}
-use Rattle.desk_policy.specs.Parsing.{read_whole_with}
+use Rattle.desk_policy.specs.Parsing.{read_of, read_whole_with}
 use Rattle.desk_policy.specs.Policy.{Content}
 use Rattle.desk_policy.specs.View.{IsFaultOf}
 use Rattle.desk_policy.specs.declared.parsing.SiteTables.{SiteTables}
@@ -26,7 +26,8 @@ returns-in_err-tried c =
     let table = c.args.asked.filesystems.now in
     let question = question_in request c.args.own.now c.args.asked.asking c.args.asked.json in
     rw (p.1, p.2)
-    (fault_tried (PrintsVerdict c.args.sources table question) c.args.tables.now (policy_of c.args.sources table) (read_whole_with Two c.args.tables.now c.in_ok-filesystems.filesystems c.args.sources.exports.text.now) question c.in_err-tried.field-0.0
+    (fault_tried (PrintsVerdict c.args.sources table question) c.args.tables.now (policy_of c.args.sources table)
+    (read_of c.args.sources.exports.origins.now (read_whole_with Two c.args.tables.now c.in_ok-filesystems.filesystems c.args.sources.exports.text.now)) question c.in_err-tried.field-0.0
     (read_known c.args.sources table c.in_ok-filesystems.filesystems c.args.tables.now c.requires.known c.in_ok-filesystems.ensures) c.in_err-tried.ensures)
 
 pub returns : goal.returns

@@ -5,7 +5,7 @@ use Rattle.desk_text.specs.declared.reading.ReadError.{ReadError}
 use Rattle.desk_text.specs.declared.reading.ReadError.TheVariants.{Fault, Memory}
 use Rattle.desk_tables.specs.FileSystems.{fs_of}
 use Rattle.desk_exports.specs.declared.profile.Profile.TheVariants.{Two}
-use Rattle.desk_policy.specs.Parsing.{read_whole_with, without_warnings}
+use Rattle.desk_policy.specs.Parsing.{read_of, read_whole_with, without_warnings}
 use Rattle.desk_policy.specs.Policy.{Content, rows_of, with_warnings}
 use Rattle.desk_policy.specs.Prints.{mount_text}
 use Rattle.desk_policy.specs.Verdict.{Grant, verdict_of}
@@ -32,7 +32,7 @@ module _ (tables : SiteTables) (question : MountQuestion) where
       → why_in tables.netgroups tables.hosts (with_warnings content []) question.address question.path fs ≡ why_in tables.netgroups tables.hosts content question.address question.path fs
   lines_alike content same None = refl
   lines_alike content same (Some fs) =
-      ap (λ (verdict : Result Grant Denial). lines_text tables.netgroups tables.hosts question.address question.path (line_named verdict) (mount_text content fs) (rows_of content fs)) same
+      ap (λ (verdict : Result Grant Denial). lines_text tables.netgroups tables.hosts question.address question.path content.origins (line_named verdict) (mount_text content fs) (rows_of content fs)) same
 
   reasons_alike : (content : Content) → verdict_of (with_warnings content []) question.address question.path ≡ verdict_of content question.address question.path → (asking : Asking)
       → reasons_if asking tables (with_warnings content []) question.address question.path ≡ reasons_if asking tables content question.address question.path
@@ -72,7 +72,7 @@ module _ (tables : SiteTables) (question : MountQuestion) where
     answer = told.answer
         ∙ answers_as content question.json _ _
         ∙ ap₂ (λ (why : Option (List ℕ)) (verdict : Result Grant Denial). answer_with question.json why content question.own verdict) (reasons_alike content same question.asking) same;
-    beside = told.beside ∙ ap₂ (λ (own server : Result Grant Denial). wider_note (wider_line own server)) same (server_alike content);
+    beside = told.beside ∙ ap₂ (λ (own server : Result Grant Denial). wider_note content.origins (wider_line own server)) same (server_alike content);
   }
 
   there_alike : (content : Content) (tried : Tried) → AnswersThere (with_warnings content []) question tried → AnswersThere content question tried
@@ -104,4 +104,4 @@ returns c =
     let tables = c.args.site_tables.now in
     let question = mount_question_of c.args.question in
     let told = subst (λ r. Tries tables r question c.answer_by.result) (sym c.in_ok-policy.ensures) c.answer_by.ensures in
-    with_warnings_too tables question c.warnings_change_no_answer.ensures (read_whole_with Two tables c.args.filesystems c.args.text.now) c.answer_by.result told
+    with_warnings_too tables question c.warnings_change_no_answer.ensures (read_of c.args.origins.now (read_whole_with Two tables c.args.filesystems c.args.text.now)) c.answer_by.result told
