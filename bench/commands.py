@@ -335,6 +335,16 @@ COMMANDS = {
             given="try - 10.0.0.5 /usr/local /usr\n/usr /usr/local -ro 10.0.0.5\n/usr 10.0.0.6\n",
             title="`try`, by its words in standard input",
         ),
+        Command(
+            ["try", "-", "10.0.0.5", "/a/x", "/a", "--and", "TEXT", "--and", "TEXT", "--why"],
+            f"granted line 2 of text {STANDARD}\nline 1 of - name 10.0.0.5: as heavy as line 2 of text, does not list /a/x\n"
+            "line 2 of text name 10.0.0.5: decides, lists /a/x\n"
+            "line 2 of text name 10.0.0.5: as heavy as line 2 of text, lists /a/x\n"
+            "lines of /a that match 10.0.0.5: 3 of 3\n",
+            given="/a 10.0.0.5 \\",
+            text="\n/a/x 10.0.0.5\n",
+            title="`try` by three exports files",
+        ),
         tried(
             ["try", "-", "10.0.0.5", "/a//my disk/", "/a"],
             '"/a/my disk" \\\n-sec=krb5:sys:krb5 \\\n10.0.0.5\n',
@@ -424,6 +434,15 @@ COMMANDS = {
             given="/a x\n",
             text="10.0.0 x\n",
             title="`check` with a hosts file that has a fault",
+        ),
+        Command(
+            ["check", "-", "/a", "--and", "TEXT", "--json"],
+            '[{"address":"10.0.0.5","column":1,"kind":"fault","line":2,"name":"Contradiction","other":1,"other_path":"-",'
+            '"path":"text","rule":26,"text":"line 1 of - has other terms for 10.0.0.5","word":"/a"}]\n',
+            3,
+            given="/a 10.0.0.5",
+            text="\n/a -ro 10.0.0.5\n",
+            title="`check` of two exports files",
         ),
     ],
     "split": [

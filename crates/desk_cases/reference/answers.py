@@ -3,6 +3,7 @@ what a database holds. They have the members of the bodies of HTTP (docs/HTTP.md
 """
 
 import re
+from urllib.parse import unquote
 
 from reference.definitions import changes, dotted, effect, fs_of, in_order, lists, matters, places, printed, selected, verdict
 from reference.readings import FILES
@@ -11,7 +12,7 @@ from reference.why import network_text, why_text
 REASONS = {"NoFileSystem": 1, "NoLine": 2, "NotListed": 3}
 HEADLINE = re.compile(r"(.*?):(\d+):(\d+): fault (\d+) (\w+): (.*)", re.DOTALL)
 # What a sentence says of an earlier line: that it contradicts this one for an address, or that it has the same netgroup.
-CONTRADICTS = re.compile(r"line (\d+) has other terms for ([0-9.]+)")
+CONTRADICTS = re.compile(r"line (\d+)(?: of (.*))? has other terms for ([0-9.]+)", re.DOTALL)
 REPEATS = re.compile(r".* is defined on an earlier line already: line (\d+)")
 
 
@@ -23,14 +24,20 @@ def verdict_object(site, path, found, acts=None):
     kind, what, *_ = found.split(" ")
     if kind == "granted":
         terms = terms_object(effect(found)) | ({"acts": acts} if acts else {})
-        return terms | {"fs": printed(fs_of(site.mounts, path)), "line": int(found.split(" ")[2]), "verdict": "granted"}
+        return terms | {"fs": printed(fs_of(site.mounts, path)), "verdict": "granted"} | line_members(found.split(" ")[2])
     told = {"reason": int(what), "verdict": "denied"}
     if what == "1":
         return told
     if what == "2":
         return told | {"fs": found.removeprefix("denied 2 NoLine ")}
     mount, _, line = found.removeprefix("denied 3 NotListed ").rpartition(" line ")
-    return told | {"fs": mount, "line": int(line)}
+    return told | {"fs": mount} | line_members(line)
+
+
+def line_members(name):
+    """The number of a line, and its file, if it is one of several texts."""
+    number, *of_several = name.split("@")
+    return {"line": int(of_several[0]), "file": unquote(of_several[1])} if of_several else {"line": int(number)}
 
 
 def terms_object(terms):
@@ -171,6 +178,7 @@ def finding_object(errors):
     told = {"path": path, "line": int(number), "column": int(column), "kind": "fault", "rule": int(rule), "name": name}
     told |= {"text": sentence, "word": word}
     if found := CONTRADICTS.fullmatch(sentence):
-        return told | {"other": int(found[1]), "address": found[2]}
+        told |= {"other_path": found[2]} if found[2] is not None else {}
+        return told | {"other": int(found[1]), "address": found[3]}
     found = REPEATS.fullmatch(sentence)
     return told | ({"other": int(found[1])} if found else {})

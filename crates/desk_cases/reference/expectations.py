@@ -3,6 +3,7 @@ output, as text, as JSON or as a log of SARIF, and on standard error.
 """
 
 import re
+from urllib.parse import unquote
 
 from reference.definitions import (
     RULES, Expectation, allows, dotted, expectation, in_order, is_meant, is_under, names_of, printed, runs, scope_places,
@@ -26,7 +27,7 @@ SENTENCES = {
     "Nobody": "is whom the line is about, and that is nobody: no address is meant",
 }
 # The line that a verdict names.
-LINE = re.compile(r"^(?:granted|denied 3 NotListed .*) ?line (\d+)")
+LINE = re.compile(r"^(?:granted|denied 3 NotListed .*) ?line (?:\d+@)?(\d+)(?:@(\S+))?")
 OUTSIDE = "is in no file system, nor is anything below it"
 
 
@@ -149,10 +150,10 @@ def report_log(site, file, exports, found):
         text = broken_text(expected, sections).removesuffix("\n")
         text = "".join(letter if letter in "\t\n" else shown_letter(letter) for letter in text)
         lines = dict.fromkeys(
-            (exports or f"exports:{mount_of(site, heading)}", int(line))
+            (unquote(file) or exports or f"exports:{mount_of(site, heading)}", int(line))
             for heading, ranges in sections
             for _, _, verdict_line, _ in ranges
-            for line in LINE.findall(verdict_line)
+            for line, file in LINE.findall(verdict_line)
         )
         results.append(told("broken/1", text, file, {"startLine": expected.number}, lines))
     return expectations_log(SENTENCES, results) + "\n"

@@ -4,6 +4,7 @@ systems alone: for the script that looks answers up in the definitions.
 
 import re
 import sys
+from urllib.parse import quote
 
 from reference import lines
 from reference.definitions import Line, Site, fs_of, number_of, printed
@@ -168,12 +169,42 @@ def entries_of(mounts, mount, line, tables):
     return [entry] if entry else []
 
 
+class OwnLine(int):
+    """The number of a line of one of several texts: its place among the lines of all, and for what is printed also its own number and the
+    path of its text, as 7@3@zfs/exports, with the letters of a URI."""
+
+    def __new__(cls, place, own, path):
+        made = super().__new__(cls, place)
+        made.name = f"{place}@{own}@{quote(path)}"
+        return made
+
+    def __str__(self):
+        return self.name
+
+    def __format__(self, form):
+        return self.name
+
+    def __eq__(self, other):
+        return self.name == other if isinstance(other, str) else int(self) == other
+
+    __hash__ = int.__hash__
+
+
 def read_whole(text, mounts, texts):
     """The site of an exports text for all of these mount points, and of the texts of tables."""
+    return read_several([(None, text)], mounts, texts)
+
+
+def read_several(named, mounts, texts):
+    """The same of several exports texts, each read by itself, one behind another, with the paths of their files."""
     tables = Tables(texts)
-    site = empty_site(map(path_of, mounts), tables)
-    for line in lines.logical_lines(text):
-        entry = read_line(line, tables)
-        if entry:
-            site.lines[fs_of(site.mounts, entry.directories[0])].append(entry)
+    site, before = empty_site(map(path_of, mounts), tables), 0
+    for path, text in named:
+        for line in lines.logical_lines(text):
+            entry = read_line(line, tables)
+            if entry:
+                if path is not None:
+                    entry.number = OwnLine(before + entry.number, entry.number, path)
+                site.lines[fs_of(site.mounts, entry.directories[0])].append(entry)
+        before += len(lines.physical_lines(text))
     return site

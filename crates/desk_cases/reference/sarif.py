@@ -111,7 +111,8 @@ def result(finding):
     }
     if "other" in finding:
         words = "the other line" if finding["name"] in OF_LINES else "the earlier line"
-        found["relatedLocations"] = [{"message": {"text": words}, **location(finding["path"], {"startLine": finding["other"]})}]
+        file = finding.get("other_path", finding["path"])
+        found["relatedLocations"] = [{"message": {"text": words}, **location(file, {"startLine": finding["other"]})}]
     return found
 
 

@@ -95,8 +95,8 @@ def wider_grants(site, mount):
 
 
 def granting_line(site, address, path):
-    """The number of the line by which the server grants what the desk denies, or None."""
-    return int(server_verdict(site, address, path).split()[2]) if is_wider(site, address, path) else None
+    """The name of the line by which the server grants what the desk denies, or None."""
+    return server_verdict(site, address, path).split()[2] if is_wider(site, address, path) else None
 
 
 def wider_note(site, address, path):

@@ -13,8 +13,13 @@ def named_line(found):
     """The number of the line that a verdict names: the line that grants, or the first selected one, which does not list the
     directory. None if no line matches, or there is no file system."""
     if found.startswith("granted line "):
-        return int(found.split(" ")[2])
-    return int(found.rpartition(" ")[2]) if found.startswith("denied 3 ") else None
+        return number_in(found.split(" ")[2])
+    return number_in(found.rpartition(" ")[2]) if found.startswith("denied 3 ") else None
+
+
+def number_in(name):
+    """The number of a line by its name; that of one of several texts is named by its text, too."""
+    return name if "@" in name else int(name)
 
 
 def match_text(site, line, address):
