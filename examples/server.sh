@@ -24,8 +24,8 @@ check_server() {
     esac
 }
 
-# Prints the mount points of a server, by the file in which `mount -p` of it is: the second word of each line but for what has
-# no files to export. A blank in a path is written \040 there.
+# Prints the mount points of a server as --mounts reads them, by the file in which `mount -p` of it is: the second word of each line
+# but for what has no files to export. (exportdesk would read such a file, too, but not \040, which stands there for a blank.)
 mount_points() {
     awk '
         NF != 6 {
@@ -37,18 +37,9 @@ mount_points() {
             gsub(/\\040/, " ", $2)
             gsub(/\\011/, "\t", $2)
             gsub(/\\134/, "\\", $2)
-            print $2
+            gsub(/[\\"]/, "\\\\&", $2)
+            print "\"" $2 "\""
         }' "$1"
-}
-
-# Sets $text to the file with the exports that mountd(8) reads on a server, by its folder: that of /etc/exports, or if there is
-# one of /etc/zfs/exports, both in a file of the name that is given. (The first may lack a line end.)
-join_exports() {
-    text=$1/exports
-    if [ -e "$1/zfs/exports" ]; then
-        { cat "$text" && echo && cat "$1/zfs/exports"; } >"$2" || return
-        text=$2
-    fi
 }
 
 # Runs a command of exportdesk with the mount points and the tables of a server, by its folder: by_tables_of DIR WORD..
@@ -56,9 +47,6 @@ by_tables_of() {
     tables=$1
     shift
     mount_points "$tables/mounts" >"$room/mount-points" || return 2
-    while IFS= read -r mount; do
-        set -- "$@" "$mount"
-    done <"$room/mount-points"
-    exportdesk "$@" --hosts "$tables/hosts" --networks "$tables/networks" --passwd "$tables/passwd" \
-        --group "$tables/group" --netgroup "$tables/netgroup"
+    exportdesk "$@" --mounts "$room/mount-points" --hosts "$tables/hosts" --networks "$tables/networks" \
+        --passwd "$tables/passwd" --group "$tables/group" --netgroup "$tables/netgroup"
 }
