@@ -53,7 +53,7 @@ fn push_rows(alloc: Global, rows: &[FlavoursRow<'_>], page: &mut String) -> Resu
 fn push_row(alloc: Global, row: &FlavoursRow<'_>, page: &mut String) -> Result<(), AllocError>
     ensures { OnOk result (string_bytes page.new ≡ string_bytes page.old ++ spec.row row.now) }
 {
-    push_names(row.flavours, page)?;
+    push_names(alloc, row.flavours, page)?;
     push_count_cell(alloc, row.lines, page)?;
     push_count_cell(alloc, row.writable, page)?;
     push_systems(alloc, row.systems, page)?;
@@ -62,11 +62,11 @@ fn push_row(alloc: Global, row: &FlavoursRow<'_>, page: &mut String) -> Result<(
 }
 
 /// Begins a row with the flavours, as lines write them and in words.
-fn push_names(flavours: &[Flavour], page: &mut String) -> Result<(), AllocError>
+fn push_names(alloc: Global, flavours: &[Flavour], page: &mut String) -> Result<(), AllocError>
     ensures { OnOk result (string_bytes page.new ≡ string_bytes page.old ++ spec.names flavours.now) }
 {
     page.push_str("<tr><th scope=\"row\"><code>")?;
-    push_flavour_names(flavours, page)?;
+    push_flavour_names(alloc, flavours, page)?;
     page.push_str("</code></th><td>")?;
     push_flavours(flavours, page)?;
     page.push_str("</td>")?;

@@ -14,3 +14,4 @@ pub mod Matched
 pub mod Told
 pub mod Kept
 pub mod Ordered
+pub mod Gathering

@@ -1,25 +1,33 @@
--- Badges on the page, and how many addresses are of which class. (this project's own, over HTML)
+-- Badges of classes, marks of levels, and how many addresses are of which class. (this project's own)
 use Rattle.std.specs.Prelude.{ℕ, ◌==◌, ◌^◌, List, [], ◌∷◌, ◌++◌, codes, if◌then◌else◌}
-use Rattle.std.specs.List.{join_by}
 use Rattle.desk_report.specs.declared.class.Class.{Class}
 use Rattle.desk_report.specs.declared.class.Class.TheVariants.{Denied, ReadOnly, ReadWrite, RootKept}
 use Rattle.desk_report.specs.declared.counts.Counts.{Counts}
 use Rattle.desk_report.specs.declared.reasons.Level.{Level}
 use Rattle.desk_report.specs.declared.reasons.Level.TheVariants.{LookFirst, Check}
-use Rattle.desk_page.specs.Amounts.{part}
-use Rattle.desk_page.specs.Numbers.{number}
+use Rattle.page_html.specs.Items.{Badge, Item, Number, Own, PartOf, Space, Words, item_html, items_html}
+use Rattle.page_html.specs.Items as items
+use Rattle.page_findings.specs.Joining.{comma, joined}
+use Rattle.page_findings.specs.declared.badges.Measure.{Measure}
+use Rattle.page_findings.specs.declared.badges.Measure.TheVariants.{Count, Share}
 
 -- the badge of a class, which the style sheet tells apart by more than its colour
+abbrev pub badge_item : Class → Item (List ℕ)
+badge_item Denied = Own (Badge (codes "n") (codes "denied"))
+badge_item ReadOnly = Own (Badge (codes "o") (codes "read-only"))
+badge_item ReadWrite = Own (Badge (codes "w") (codes "read-write"))
+badge_item RootKept = Own (Badge (codes "r") (codes "root kept"))
+
 abbrev pub badge : Class → List ℕ
-badge Denied = codes "<span class=\"b n\">denied</span>"
-badge ReadOnly = codes "<span class=\"b o\">read-only</span>"
-badge ReadWrite = codes "<span class=\"b w\">read-write</span>"
-badge RootKept = codes "<span class=\"b r\">root kept</span>"
+badge class = item_html (badge_item class)
 
 -- the mark of a level
+abbrev pub level_item : Level → Item (List ℕ)
+level_item LookFirst = Own (items.Level (codes "look-first") (codes "look first"))
+level_item Check = Own (items.Level (codes "check") (codes "check"))
+
 abbrev pub level_mark : Level → List ℕ
-level_mark LookFirst = codes "<b class=\"l look-first\">look first</b>"
-level_mark Check = codes "<b class=\"l check\">check</b>"
+level_mark level = item_html (level_item level)
 
 -- the words for a class
 abbrev pub class_words : Class → List ℕ
@@ -43,21 +51,22 @@ if_any counts class = if count_of counts class == 0 then [] else class ∷ []
 unfoldable pub present : Counts → List Class
 present counts = if_any counts RootKept ++ if_any counts ReadWrite ++ if_any counts ReadOnly
 
--- what is said of each of these classes, or that there is nobody
-abbrev pub each_or_nobody : (Class → List ℕ) → List Class → List ℕ
-each_or_nobody words [] = codes "nobody"
-each_or_nobody words (first ∷ others) = join_by words (codes ", ") (first ∷ others)
+-- how many addresses are of a class, as `root kept 1`, or with its badge what part of all; no line is broken before a number
+abbrev pub class_items : Measure → Counts → Class → List (Item (List ℕ))
+class_items Count counts class = Own (Words (class_words class)) ∷ Own Space ∷ Own (Number (count_of counts class)) ∷ []
+class_items Share counts class = badge_item class ∷ Own Space ∷ Own (PartOf (count_of counts class) (2 ^ 32)) ∷ []
 
--- how many addresses are of which class, as `root kept 1, read-only 255`; no line is broken before a number
-abbrev pub class_count : Counts → Class → List ℕ
-class_count counts class = class_words class ++ codes "&nbsp;" ++ number (count_of counts class)
+-- the same of some classes, or that there is nobody
+abbrev pub classes_items : Measure → Counts → List Class → List (Item (List ℕ))
+classes_items measure counts [] = Own (Words (codes "nobody")) ∷ []
+classes_items measure counts (first ∷ others) = joined (class_items measure counts) comma (first ∷ others)
 
-abbrev pub count_words : Counts → List ℕ
-count_words counts = each_or_nobody (class_count counts) (present counts)
+-- the same of all that some address has, as `root kept 1, read-only 255`
+abbrev pub measured_items : Measure → Counts → List (Item (List ℕ))
+measured_items measure counts = classes_items measure counts (present counts)
 
--- what part of all addresses is of which class, with its badge
-abbrev pub class_part : Counts → Class → List ℕ
-class_part counts class = badge class ++ codes "&nbsp;" ++ part (count_of counts class) (2 ^ 32)
+unfoldable pub count_words : Counts → List ℕ
+count_words counts = items_html (measured_items Count counts)
 
-abbrev pub class_parts : Counts → List ℕ
-class_parts counts = each_or_nobody (class_part counts) (present counts)
+unfoldable pub class_parts : Counts → List ℕ
+class_parts counts = items_html (measured_items Share counts)

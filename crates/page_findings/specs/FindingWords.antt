@@ -1,29 +1,40 @@
--- Why a line stands out, in words. (this project's own)
-use Rattle.std.specs.Prelude.{ℕ, ◌==◌, Bool, List, [], ◌++◌, Option, None, Some, codes, drop, length, nat_le, take, if◌then◌else◌}
-use Rattle.std.specs.List.{join_by}
+-- Why a line stands out, as parts of the page. (this project's own)
+use Rattle.std.specs.Prelude.{ℕ, ◌==◌, Bool, List, [], ◌∷◌, ◌++◌, Option, None, Some, codes, drop, length, take, if◌then◌else◌}
 use Rattle.std.specs.Option.{option_copied}
-use Rattle.desk_text.specs.Address.{addr_text, number_of}
 use Rattle.desk_text.specs.Path.{path_text}
+use Rattle.desk_text.specs.declared.address.Addr.{Addr}
 use Rattle.desk_exports.specs.Flavours.{flavour_word}
 use Rattle.desk_exports.specs.declared.entry.Flavour.{Flavour}
 use Rattle.desk_exports.specs.declared.entry.Mapping.{Mapping}
 use Rattle.desk_exports.specs.declared.entry.Mapping.TheVariants.{All, Root}
 use Rattle.desk_exports.specs.declared.entry.Terms.{Terms}
-use Rattle.desk_page.specs.Pieces.{code, line_link}
-use Rattle.desk_page.specs.Amounts.{and_more}
-use Rattle.page_findings.specs.declared.finding_words.Finding.{Finding}
 use Rattle.desk_report.specs.declared.reasons.Reason.{Reason}
 use Rattle.desk_report.specs.declared.reasons.Reason.TheVariants.{NoClient, NeverDecides, ForEverybodyReadOnly, ForEverybodyReadWrite, Wide, RootKeptForNetworks, RootKeptForNames, ServerGrantsMore, RepeatedClient}
 use Rattle.desk_server.specs.declared.repeated_client.RepeatedClient.{RepeatedClient as Repeated}
 use Rattle.desk_server.specs.declared.wider_grant.WiderGrant.{WiderGrant}
+use Rattle.desk_page.specs.declared.ranges.Span.{Span}
+use Rattle.page_html.specs.Items.{AndMore, Code, Item, LineLink, Own, Range, Word, Words, items_html}
+use Rattle.page_findings.specs.Joining.{comma, joined}
+use Rattle.page_findings.specs.declared.finding_words.Finding.{Finding}
+
+-- what stands between two flavours
+abbrev pub colon : Item (List ℕ)
+colon = Own (Words (codes ":"))
 
 -- the names of flavours, as a line writes them
-abbrev pub flavour_names : List Flavour → List ℕ
-flavour_names flavours = join_by flavour_word (codes ":") flavours
+abbrev pub flavour_item : Flavour → List (Item (List ℕ))
+flavour_item flavour = Own (Words (flavour_word flavour)) ∷ []
+
+abbrev pub flavour_items : List Flavour → List (Item (List ℕ))
+flavour_items flavours = joined flavour_item colon flavours
+
+unfoldable pub flavour_names : List Flavour → List ℕ
+flavour_names flavours = items_html (flavour_items flavours)
 
 -- a line is for everybody
-abbrev pub for_everybody : List ℕ → Terms → List ℕ
-for_everybody access terms = codes "for everybody, " ++ access ++ codes ", sec=" ++ flavour_names terms.flavours
+abbrev pub for_everybody : List ℕ → Terms → List (Item (List ℕ))
+for_everybody access terms =
+    Own (Words (codes "for everybody, ")) ∷ Own (Words access) ∷ Own (Words (codes ", sec=")) ∷ flavour_items terms.flavours
 
 -- whose root is kept, and whether that is so for a network
 abbrev pub root_words : Mapping → List ℕ
@@ -33,56 +44,66 @@ root_words (All cred) = codes "every user acts as root"
 abbrev pub network_words : Bool → List ℕ
 network_words is_for_network = if is_for_network then codes " for a whole network" else []
 
-abbrev pub root_kept : Terms → Bool → List ℕ
-root_kept terms is_for_network = root_words terms.map ++ network_words is_for_network
+abbrev pub root_kept : Terms → Bool → List (Item (List ℕ))
+root_kept terms is_for_network = Own (Words (root_words terms.map)) ∷ Own (Words (network_words is_for_network)) ∷ []
 
 -- links to lines of a file system: 6 at the most, and how many more there are
-abbrev pub line_links : ℕ → List ℕ → List ℕ
-line_links fs lines = join_by (line_link fs) (codes ", ") lines
+abbrev pub line_item : ℕ → ℕ → List (Item (List ℕ))
+line_item fs line = Own (LineLink fs line) ∷ []
 
-abbrev pub some_lines : ℕ → List ℕ → List ℕ
-some_lines fs lines = if nat_le (length lines) 6 then line_links fs lines else line_links fs (take 6 lines) ++ and_more (length (drop 6 lines))
+abbrev pub line_items : ℕ → List ℕ → List (Item (List ℕ))
+line_items fs lines = joined (line_item fs) comma lines
+
+abbrev pub some_lines : ℕ → List ℕ → List (Item (List ℕ))
+some_lines fs lines = line_items fs (take 6 lines) ++ Own (AndMore (length (drop 6 lines))) ∷ []
 
 -- which lines decide in place of one that never does
 abbrev pub decide_words : ℕ → List ℕ
 decide_words count = if count == 1 then codes " decides for all its clients" else codes " decide for all its clients"
 
-abbrev pub deciding : ℕ → List ℕ → List ℕ
-deciding fs lines = codes "never decides: " ++ some_lines fs lines ++ decide_words (length lines)
+abbrev pub deciding : ℕ → List ℕ → List (Item (List ℕ))
+deciding fs lines = Own (Words (codes "never decides: ")) ∷ some_lines fs lines ++ Own (Words (decide_words (length lines))) ∷ []
 
 -- what another line lists more: a directory; or it has -alldirs, and lists every directory
-abbrev pub listed_directory : List (List ℕ) → List ℕ
-listed_directory directory = codes " lists " ++ code (path_text directory) ++ codes " too"
+abbrev pub listed : Option (List (List ℕ)) → List (Item (List ℕ))
+listed (Some directory) = Own (Words (codes " lists ")) ∷ Code (path_text directory) ∷ Own (Words (codes " too")) ∷ []
+listed None =
+    Own (Words (codes " lists every directory of the file system (")) ∷ Own (Word (codes "-alldirs")) ∷ Own (Words (codes ")")) ∷ []
 
-abbrev pub listed : Option (List (List ℕ)) → List ℕ
-listed (Some directory) = listed_directory directory
-listed None = codes " lists every directory of the file system (<code>-alldirs</code>)"
+-- the range of one address
+abbrev pub only : Addr → Span
+only address = record { first = address; last = address }
 
 -- to whom the server grants more, by which line, and what that lists
-abbrev pub wider : ℕ → WiderGrant → List ℕ
+abbrev pub wider : ℕ → WiderGrant → List (Item (List ℕ))
 wider fs found =
-    codes "mountd(8) grants more: to " ++ addr_text (number_of found.address) ++ codes " " ++ line_link fs found.other ++ listed (option_copied found.directory)
+    Own (Words (codes "mountd(8) grants more: to ")) ∷ Own (Range (only found.address)) ∷ Own (Words (codes " ")) ∷ Own (LineLink fs found.other)
+    ∷ listed (option_copied found.directory)
 
 -- that the server may leave the line out, since an earlier one has a client of it
-abbrev pub repeated : ℕ → Repeated → List ℕ
+abbrev pub repeated : ℕ → Repeated → List (Item (List ℕ))
 repeated fs found =
-    codes "mountd(8) may leave this line out: " ++ line_link fs found.other ++ codes " has " ++ addr_text (number_of found.address)
+    Own (Words (codes "mountd(8) may leave this line out: ")) ∷ Own (LineLink fs found.other) ∷ Own (Words (codes " has "))
+    ∷ Own (Range (only found.address)) ∷ []
 
 -- a reason why a line stands out
-abbrev pub reason_words : Finding → Reason → List ℕ
-reason_words finding NoClient = codes "matches nobody"
-reason_words finding NeverDecides = deciding finding.fs.0 finding.deciding.now
-reason_words finding ForEverybodyReadOnly = for_everybody (codes "read-only") finding.terms.now
-reason_words finding ForEverybodyReadWrite = for_everybody (codes "read-write") finding.terms.now
-reason_words finding Wide = codes "wide: over 65,536 addresses"
-reason_words finding RootKeptForNetworks = root_kept finding.terms.now finding.is_for_network
-reason_words finding RootKeptForNames = root_kept finding.terms.now finding.is_for_network
-reason_words finding (ServerGrantsMore found) = wider finding.fs.0 found
-reason_words finding (RepeatedClient found) = repeated finding.fs.0 found
+abbrev pub reason_items : Finding → Reason → List (Item (List ℕ))
+reason_items finding NoClient = Own (Words (codes "matches nobody")) ∷ []
+reason_items finding NeverDecides = deciding finding.fs.0 finding.deciding.now
+reason_items finding ForEverybodyReadOnly = for_everybody (codes "read-only") finding.terms.now
+reason_items finding ForEverybodyReadWrite = for_everybody (codes "read-write") finding.terms.now
+reason_items finding Wide = Own (Words (codes "wide: over 65,536 addresses")) ∷ []
+reason_items finding RootKeptForNetworks = root_kept finding.terms.now finding.is_for_network
+reason_items finding RootKeptForNames = root_kept finding.terms.now finding.is_for_network
+reason_items finding (ServerGrantsMore found) = wider finding.fs.0 found
+reason_items finding (RepeatedClient found) = repeated finding.fs.0 found
 
 -- reasons with commas between them, and all reasons why a line stands out
-abbrev pub reasons_words : Finding → List Reason → List ℕ
-reasons_words finding reasons = join_by (reason_words finding) (codes ", ") reasons
+abbrev pub reasons_items : Finding → List Reason → List (Item (List ℕ))
+reasons_items finding reasons = joined (reason_items finding) comma reasons
 
-abbrev pub finding_words : Finding → List ℕ
-finding_words finding = reasons_words finding finding.reasons.now
+abbrev pub finding_items : Finding → List (Item (List ℕ))
+finding_items finding = reasons_items finding finding.reasons.now
+
+unfoldable pub finding_words : Finding → List ℕ
+finding_words finding = items_html (finding_items finding)

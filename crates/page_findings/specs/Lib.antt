@@ -8,5 +8,6 @@ pub mod PrivateFlavours
 pub mod Laws
 pub mod Deciding
 pub mod PrivateDeciding
+pub mod Joining
 pub mod Badges
 pub mod FindingWords

@@ -1,26 +1,38 @@
-//! Badges on the page, and how many addresses are of which class.
+//! Badges of classes, marks of levels, and how many addresses are of which class, as parts of the page.
 
-ghost use Rattle.std.specs.Prelude.{◌≡◌, ◌+◌, ◌^◌, ◌++◌, IfOk, OnOk, codes};
+ghost use Rattle.std.specs.Prelude.{◌≡◌, ◌++◌, ◌∷◌, IfOk, OnOk, map};
 ghost use Rattle.std.specs.List.{flat_map};
 ghost use Rattle.std.specs.String.{string_bytes};
+ghost use Rattle.page_html.specs.Parts.{item_of};
 ghost use Rattle.page_findings.specs.Badges as spec;
+ghost use Rattle.page_findings.specs.Joining.{comma};
 
-use desk_page::{push_number, push_part};
+use crate::joining::push_all;
 use desk_report::{Class, Counts, Level};
+use page_html::{Part, push_parts};
 use std::alloc::{AllocError, Global};
 
 /// How many addresses there are.
 const ALL: u64 = 1 << 32;
 
+/// How it is told how many addresses are of a class.
+#[derive(Clone, Copy)]
+pub enum Measure {
+    /// As a number, behind the class in words. There is no element, so that an attribute may have it, too.
+    Count,
+    /// As a part of all addresses, behind the badge of the class.
+    Share,
+}
+
 /// Adds the badge of a class.
 pub fn push_badge(class: Class, page: &mut String) -> Result<(), AllocError>
     ensures { OnOk result (string_bytes page.new ≡ string_bytes page.old ++ spec.badge class) }
 {
-    page.push_str(badge_of(class))
+    page.push_str(badge_text(class))
 }
 
-/// Returns the badge of a class.
-fn badge_of(class: Class) -> &'static str
+/// Returns the badge of a class as it is written.
+fn badge_text(class: Class) -> &'static str
     ensures { result.now ≡ spec.badge class }
 {
     match class {
@@ -31,15 +43,27 @@ fn badge_of(class: Class) -> &'static str
     }
 }
 
+/// Returns the badge of a class.
+pub fn badge_part<'a>(class: Class) -> Part<'a>
+    ensures { item_of result ≡ spec.badge_item class }
+{
+    match class {
+        Class::Denied => Part::Badge("n", "denied"),
+        Class::ReadOnly => Part::Badge("o", "read-only"),
+        Class::ReadWrite => Part::Badge("w", "read-write"),
+        Class::RootKept => Part::Badge("r", "root kept"),
+    }
+}
+
 /// Adds the mark of a level.
 pub fn push_level_mark(level: Level, page: &mut String) -> Result<(), AllocError>
     ensures { OnOk result (string_bytes page.new ≡ string_bytes page.old ++ spec.level_mark level) }
 {
-    page.push_str(level_mark_of(level))
+    page.push_str(level_text(level))
 }
 
-/// Returns the mark of a level.
-fn level_mark_of(level: Level) -> &'static str
+/// Returns the mark of a level as it is written.
+fn level_text(level: Level) -> &'static str
     ensures { result.now ≡ spec.level_mark level }
 {
     match level {
@@ -48,49 +72,14 @@ fn level_mark_of(level: Level) -> &'static str
     }
 }
 
-/// Adds how many addresses are of which class, in words without elements, as an attribute may have them, too.
-pub fn push_count_words(alloc: Global, counts: &Counts, page: &mut String) -> Result<(), AllocError>
-    ensures { OnOk result (string_bytes page.new ≡ string_bytes page.old ++ spec.count_words counts.now) }
+/// Returns the mark of a level.
+pub fn level_part<'a>(level: Level) -> Part<'a>
+    ensures { item_of result ≡ spec.level_item level }
 {
-    let classes = present(alloc, counts)?;
-    match classes.as_slice() {
-        [] => page.push_str("nobody"),
-        [first, others @ ..] => {
-            push_class_count(alloc, counts, *first, page)?;
-            push_later_counts(alloc, counts, others, page)
-        }
+    match level {
+        Level::LookFirst => Part::Level("look-first", "look first"),
+        Level::Check => Part::Level("check", "check"),
     }
-}
-
-/// Adds the counts of the classes behind the first.
-fn push_later_counts(
-    alloc: Global,
-    counts: &Counts,
-    classes: &[Class],
-    page: &mut String,
-) -> Result<(), AllocError>
-    ensures { OnOk result (string_bytes page.new
-        ≡ string_bytes page.old ++ flat_map (λ class. codes ", " ++ spec.class_count counts.now class) classes.now) }
-{
-    for class in classes {
-        page.push_str(", ")?;
-        push_class_count(alloc, counts, *class, page)?;
-    }
-    Ok(())
-}
-
-/// Adds how many addresses are of a class.
-fn push_class_count(
-    alloc: Global,
-    counts: &Counts,
-    class: Class,
-    page: &mut String,
-) -> Result<(), AllocError>
-    ensures { OnOk result (string_bytes page.new ≡ string_bytes page.old ++ spec.class_count counts.now class) }
-{
-    push_class_words(class, page)?;
-    page.push_str("&nbsp;")?;
-    push_number(alloc, count_of(counts, class), page)
 }
 
 /// Adds the words for a class.
@@ -112,52 +101,84 @@ fn words_of(class: Class) -> &'static str
     }
 }
 
+/// Adds how many addresses are of which class, in words.
+pub fn push_count_words(alloc: Global, counts: &Counts, page: &mut String) -> Result<(), AllocError>
+    ensures { OnOk result (string_bytes page.new ≡ string_bytes page.old ++ spec.count_words counts.now) }
+{
+    let parts = measured(alloc, Measure::Count, counts)?;
+    push_parts(alloc, parts.as_slice(), page)
+}
+
 /// Adds what part of all addresses is of which class, with the badges.
 pub fn push_class_parts(alloc: Global, counts: &Counts, page: &mut String) -> Result<(), AllocError>
-    requires { counts.now.denied + counts.now.read_only + counts.now.read_write + counts.now.root_kept ≡ 2 ^ 32 }
     ensures { OnOk result (string_bytes page.new ≡ string_bytes page.old ++ spec.class_parts counts.now) }
 {
+    let parts = measured(alloc, Measure::Share, counts)?;
+    push_parts(alloc, parts.as_slice(), page)
+}
+
+/// Gathers how many addresses are of which class.
+pub fn measured<'a>(
+    alloc: Global,
+    measure: Measure,
+    counts: &Counts,
+) -> Result<Vec<Part<'a>>, AllocError>
+    ensures { IfOk result (λ parts. map item_of parts.items ≡ spec.measured_items measure counts.now) }
+{
     let classes = present(alloc, counts)?;
-    match classes.as_slice() {
-        [] => page.push_str("nobody"),
+    let mut parts = Vec::new(alloc);
+    push_classes(measure, counts, classes.as_slice(), &mut parts)?;
+    Ok(parts)
+}
+
+/// Adds how many addresses are of these classes, with commas between them, or that there is nobody.
+fn push_classes<'a>(
+    measure: Measure,
+    counts: &Counts,
+    classes: &[Class],
+    parts: &mut Vec<Part<'a>>,
+) -> Result<(), AllocError>
+    ensures { OnOk result (map item_of parts.new.items ≡ map item_of parts.old.items ++ spec.classes_items measure counts.now classes.now) }
+{
+    match classes {
+        [] => push_all(&[Part::Words("nobody")], parts),
         [first, others @ ..] => {
-            push_class_part(alloc, counts, *first, page)?;
-            push_later_parts(alloc, counts, others, page)
+            push_all(&class_parts(measure, counts, *first), parts)?;
+            push_later_classes(measure, counts, others, parts)
         }
     }
 }
 
-/// Adds the parts of the classes behind the first.
-fn push_later_parts(
-    alloc: Global,
+/// Adds how many are of the classes behind the first.
+fn push_later_classes<'a>(
+    measure: Measure,
     counts: &Counts,
     classes: &[Class],
-    page: &mut String,
+    parts: &mut Vec<Part<'a>>,
 ) -> Result<(), AllocError>
-    requires { counts.now.denied + counts.now.read_only + counts.now.read_write + counts.now.root_kept ≡ 2 ^ 32 }
-    ensures { OnOk result (string_bytes page.new
-        ≡ string_bytes page.old ++ flat_map (λ class. codes ", " ++ spec.class_part counts.now class) classes.now) }
+    ensures { OnOk result (map item_of parts.new.items
+        ≡ map item_of parts.old.items ++ flat_map (λ class. comma ∷ spec.class_items measure counts.now class) classes.now) }
 {
     for class in classes {
-        page.push_str(", ")?;
-        push_class_part(alloc, counts, *class, page)?;
+        push_all(&[Part::Words(", ")], parts)?;
+        push_all(&class_parts(measure, counts, *class), parts)?;
     }
     Ok(())
 }
 
-/// Adds what part of all addresses is of a class.
-fn push_class_part(
-    alloc: Global,
-    counts: &Counts,
-    class: Class,
-    page: &mut String,
-) -> Result<(), AllocError>
-    requires { counts.now.denied + counts.now.read_only + counts.now.read_write + counts.now.root_kept ≡ 2 ^ 32 }
-    ensures { OnOk result (string_bytes page.new ≡ string_bytes page.old ++ spec.class_part counts.now class) }
+/// Returns how many addresses are of a class. No line is broken before the number.
+fn class_parts<'a>(measure: Measure, counts: &Counts, class: Class) -> [Part<'a>; 3]
+    ensures { map item_of result ≡ spec.class_items measure counts.now class }
 {
-    page.push_str(badge_of(class))?;
-    page.push_str("&nbsp;")?;
-    push_part(alloc, count_of(counts, class), ALL, page)
+    let count = count_of(counts, class);
+    match measure {
+        Measure::Count => [
+            Part::Words(words_of(class)),
+            Part::Space,
+            Part::Number(count),
+        ],
+        Measure::Share => [badge_part(class), Part::Space, Part::PartOf(count, ALL)],
+    }
 }
 
 /// Gathers the classes of a mount that is granted which some address has, the most first.

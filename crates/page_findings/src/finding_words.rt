@@ -1,21 +1,22 @@
-//! Why a line stands out, in words.
+//! Why a line stands out, as parts of the page.
 
-ghost use Rattle.std.specs.Prelude.{◌≡◌, ◌++◌, OnOk, codes};
+ghost use Rattle.std.specs.Prelude.{◌≡◌, ◌++◌, ◌∷◌, IfOk, OnOk, codes, map};
 ghost use Rattle.std.specs.List.{flat_map};
 ghost use Rattle.std.specs.Option.{option_copied};
 ghost use Rattle.std.specs.String.{string_bytes};
-ghost use Rattle.desk_text.specs.Address.{addr_text, number_of};
-ghost use Rattle.desk_exports.specs.Flavours.{flavour_word};
-ghost use Rattle.desk_page.specs.Pieces.{line_link};
-ghost use Rattle.page_findings.specs.FindingWords as spec;
 ghost use Rattle.desk_report.specs.Reasons.{level_of_all};
+ghost use Rattle.page_html.specs.Parts.{item_of};
+ghost use Rattle.page_findings.specs.FindingWords as spec;
+ghost use Rattle.page_findings.specs.Joining.{comma};
 
+use crate::joining::push_all;
 use desk_exports::{Flavour, Mapping, Terms};
-use desk_page::{push_and_more, push_code, push_line_link};
+use desk_page::Span;
 use desk_report::{Level, Reason, level_of_reasons};
 use desk_server::{RepeatedClient, WiderGrant};
 use desk_tables::FsId;
 use desk_text::{Addr, Path};
+use page_html::{Part, push_parts};
 use std::alloc::{AllocError, Global};
 
 /// So many of the lines that decide in place of another one are named.
@@ -52,109 +53,138 @@ pub fn push_finding_words(
 ) -> Result<(), AllocError>
     ensures { OnOk result (string_bytes page.new ≡ string_bytes page.old ++ spec.finding_words finding.now) }
 {
-    push_reasons(alloc, finding, finding.reasons, page)
+    let parts = finding_parts(alloc, finding)?;
+    push_parts(alloc, parts.as_slice(), page)
+}
+
+/// Gathers why a line stands out.
+pub fn finding_parts<'a>(alloc: Global, finding: &Finding<'a>) -> Result<Vec<Part<'a>>, AllocError>
+    ensures { IfOk result (λ parts. map item_of parts.items ≡ spec.finding_items finding.now) }
+{
+    let mut parts = Vec::new(alloc);
+    push_reasons(finding, finding.reasons, &mut parts)?;
+    Ok(parts)
 }
 
 /// Adds reasons, with commas between them.
-fn push_reasons(
-    alloc: Global,
-    finding: &Finding<'_>,
-    reasons: &[Reason<'_>],
-    page: &mut String,
+fn push_reasons<'a>(
+    finding: &Finding<'a>,
+    reasons: &[Reason<'a>],
+    parts: &mut Vec<Part<'a>>,
 ) -> Result<(), AllocError>
-    ensures { OnOk result (string_bytes page.new ≡ string_bytes page.old ++ spec.reasons_words finding.now reasons.now) }
+    ensures { OnOk result (map item_of parts.new.items ≡ map item_of parts.old.items ++ spec.reasons_items finding.now reasons.now) }
 {
     match reasons {
         [] => Ok(()),
         [first, others @ ..] => {
-            push_reason(alloc, finding, *first, page)?;
-            push_later_reasons(alloc, finding, others, page)
+            push_reason(finding, *first, parts)?;
+            push_later_reasons(finding, others, parts)
         }
     }
 }
 
 /// Adds the reasons behind the first.
-fn push_later_reasons(
-    alloc: Global,
-    finding: &Finding<'_>,
-    reasons: &[Reason<'_>],
-    page: &mut String,
+fn push_later_reasons<'a>(
+    finding: &Finding<'a>,
+    reasons: &[Reason<'a>],
+    parts: &mut Vec<Part<'a>>,
 ) -> Result<(), AllocError>
-    ensures { OnOk result (string_bytes page.new
-        ≡ string_bytes page.old ++ flat_map (λ reason. codes ", " ++ spec.reason_words finding.now reason) reasons.now) }
+    ensures { OnOk result (map item_of parts.new.items
+        ≡ map item_of parts.old.items ++ flat_map (λ reason. comma ∷ spec.reason_items finding.now reason) reasons.now) }
 {
     for reason in reasons {
-        page.push_str(", ")?;
-        push_reason(alloc, finding, *reason, page)?;
+        push_all(&[Part::Words(", ")], parts)?;
+        push_reason(finding, *reason, parts)?;
     }
     Ok(())
 }
 
 /// Adds a reason.
-fn push_reason(
-    alloc: Global,
-    finding: &Finding<'_>,
-    reason: Reason<'_>,
-    page: &mut String,
+fn push_reason<'a>(
+    finding: &Finding<'a>,
+    reason: Reason<'a>,
+    parts: &mut Vec<Part<'a>>,
 ) -> Result<(), AllocError>
-    ensures { OnOk result (string_bytes page.new ≡ string_bytes page.old ++ spec.reason_words finding.now reason.entry) }
+    ensures { OnOk result (map item_of parts.new.items ≡ map item_of parts.old.items ++ spec.reason_items finding.now reason.entry) }
 {
     match reason {
-        Reason::NoClient => page.push_str("matches nobody"),
-        Reason::NeverDecides => push_deciding(alloc, finding.fs, finding.deciding, page),
-        Reason::ForEverybodyReadOnly => push_for_everybody("read-only", finding.terms, page),
-        Reason::ForEverybodyReadWrite => push_for_everybody("read-write", finding.terms, page),
-        Reason::Wide => page.push_str("wide: over 65,536 addresses"),
+        Reason::NoClient => push_all(&[Part::Words("matches nobody")], parts),
+        Reason::NeverDecides => push_deciding(finding.fs, finding.deciding, parts),
+        Reason::ForEverybodyReadOnly => push_for_everybody("read-only", finding.terms, parts),
+        Reason::ForEverybodyReadWrite => push_for_everybody("read-write", finding.terms, parts),
+        Reason::Wide => push_all(&[Part::Words("wide: over 65,536 addresses")], parts),
         Reason::RootKeptForNetworks | Reason::RootKeptForNames => {
-            push_root_kept(finding.terms, finding.is_for_network, page)
+            push_all(&root_kept(finding.terms, finding.is_for_network), parts)
         }
-        Reason::ServerGrantsMore(found) => push_wider(finding.fs, &found, page),
-        Reason::RepeatedClient(found) => push_repeated(finding.fs, &found, page),
+        Reason::ServerGrantsMore(found) => push_wider(finding.fs, &found, parts),
+        Reason::RepeatedClient(found) => push_all(&repeated(finding.fs, &found), parts),
     }
 }
 
 /// Adds that a line is for everybody.
-fn push_for_everybody(access: &str, terms: &Terms, page: &mut String) -> Result<(), AllocError>
-    ensures { OnOk result (string_bytes page.new ≡ string_bytes page.old ++ spec.for_everybody access.now terms.now) }
+fn push_for_everybody<'a>(
+    access: &'static str,
+    terms: &Terms,
+    parts: &mut Vec<Part<'a>>,
+) -> Result<(), AllocError>
+    ensures { OnOk result (map item_of parts.new.items ≡ map item_of parts.old.items ++ spec.for_everybody access.now terms.now) }
 {
-    page.push_str("for everybody, ")?;
-    page.push_str(access)?;
-    page.push_str(", sec=")?;
-    push_flavour_names(terms.flavours.as_slice(), page)?;
-    Ok(())
+    let words = [
+        Part::Words("for everybody, "),
+        Part::Words(access),
+        Part::Words(", sec="),
+    ];
+    push_all(&words, parts)?;
+    push_flavours(terms.flavours.as_slice(), parts)
 }
 
 /// Adds the names of flavours, as a line writes them.
-pub fn push_flavour_names(flavours: &[Flavour], page: &mut String) -> Result<(), AllocError>
+pub fn push_flavour_names(
+    alloc: Global,
+    flavours: &[Flavour],
+    page: &mut String,
+) -> Result<(), AllocError>
     ensures { OnOk result (string_bytes page.new ≡ string_bytes page.old ++ spec.flavour_names flavours.now) }
+{
+    let mut parts = Vec::new(alloc);
+    push_flavours(flavours, &mut parts)?;
+    push_parts(alloc, parts.as_slice(), page)
+}
+
+/// Adds the names of flavours.
+fn push_flavours<'a>(flavours: &[Flavour], parts: &mut Vec<Part<'a>>) -> Result<(), AllocError>
+    ensures { OnOk result (map item_of parts.new.items ≡ map item_of parts.old.items ++ spec.flavour_items flavours.now) }
 {
     match flavours {
         [] => Ok(()),
         [first, others @ ..] => {
-            page.push_str(first.word())?;
-            push_later_names(others, page)
+            push_all(&[Part::Words(first.word())], parts)?;
+            push_later_flavours(others, parts)
         }
     }
 }
 
 /// Adds the names behind the first.
-fn push_later_names(flavours: &[Flavour], page: &mut String) -> Result<(), AllocError>
-    ensures { OnOk result (string_bytes page.new ≡ string_bytes page.old ++ flat_map (λ flavour. codes ":" ++ flavour_word flavour) flavours.now) }
+fn push_later_flavours<'a>(
+    flavours: &[Flavour],
+    parts: &mut Vec<Part<'a>>,
+) -> Result<(), AllocError>
+    ensures { OnOk result (map item_of parts.new.items ≡ map item_of parts.old.items ++ flat_map (λ flavour. spec.colon ∷ spec.flavour_item flavour) flavours.now) }
 {
     for flavour in flavours {
-        page.push_str(":")?;
-        page.push_str(flavour.word())?;
+        push_all(&[Part::Words(":"), Part::Words(flavour.word())], parts)?;
     }
     Ok(())
 }
 
-/// Adds whose root is kept.
-fn push_root_kept(terms: &Terms, is_for_network: bool, page: &mut String) -> Result<(), AllocError>
-    ensures { OnOk result (string_bytes page.new ≡ string_bytes page.old ++ spec.root_kept terms.now is_for_network) }
+/// Returns whose root is kept.
+fn root_kept<'a>(terms: &Terms, is_for_network: bool) -> [Part<'a>; 2]
+    ensures { map item_of result ≡ spec.root_kept terms.now is_for_network }
 {
-    page.push_str(root_words(&terms.map.get()))?;
-    page.push_str(network_words(is_for_network))?;
-    Ok(())
+    [
+        Part::Words(root_words(&terms.map.get())),
+        Part::Words(network_words(is_for_network)),
+    ]
 }
 
 /// Returns who acts as root.
@@ -179,18 +209,12 @@ fn network_words(is_for_network: bool) -> &'static str
 }
 
 /// Adds which lines decide in place of one that never does.
-fn push_deciding(
-    alloc: Global,
-    fs: FsId,
-    lines: &[u32],
-    page: &mut String,
-) -> Result<(), AllocError>
-    ensures { OnOk result (string_bytes page.new ≡ string_bytes page.old ++ spec.deciding fs.0 lines.now) }
+fn push_deciding<'a>(fs: FsId, lines: &[u32], parts: &mut Vec<Part<'a>>) -> Result<(), AllocError>
+    ensures { OnOk result (map item_of parts.new.items ≡ map item_of parts.old.items ++ spec.deciding fs.0 lines.now) }
 {
-    page.push_str("never decides: ")?;
-    push_some_lines(alloc, fs, lines, page)?;
-    page.push_str(decide_words(lines.len()))?;
-    Ok(())
+    push_all(&[Part::Words("never decides: ")], parts)?;
+    push_some_lines(fs, lines, parts)?;
+    push_all(&[Part::Words(decide_words(lines.len()))], parts)
 }
 
 /// Returns that so many lines decide.
@@ -205,89 +229,95 @@ fn decide_words(count: usize) -> &'static str
 }
 
 /// Adds links to the first of some lines, and how many more there are.
-fn push_some_lines(
-    alloc: Global,
-    fs: FsId,
-    lines: &[u32],
-    page: &mut String,
-) -> Result<(), AllocError>
-    ensures { OnOk result (string_bytes page.new ≡ string_bytes page.old ++ spec.some_lines fs.0 lines.now) }
+fn push_some_lines<'a>(fs: FsId, lines: &[u32], parts: &mut Vec<Part<'a>>) -> Result<(), AllocError>
+    ensures { OnOk result (map item_of parts.new.items ≡ map item_of parts.old.items ++ spec.some_lines fs.0 lines.now) }
 {
-    if lines.len() <= MOST_DECIDING {
-        return push_line_links(fs, lines, page);
-    }
-    let (named, others) = lines.split_at(MOST_DECIDING);
-    push_line_links(fs, named, page)?;
-    push_and_more(alloc, others.len() as u64, page)
+    let (named, others) = lines.split_at(MOST_DECIDING.min(lines.len()));
+    push_lines(fs, named, parts)?;
+    push_all(&[Part::AndMore(others.len() as u64)], parts)
 }
 
 /// Adds links to lines, with commas between them.
-fn push_line_links(fs: FsId, lines: &[u32], page: &mut String) -> Result<(), AllocError>
-    ensures { OnOk result (string_bytes page.new ≡ string_bytes page.old ++ spec.line_links fs.0 lines.now) }
+fn push_lines<'a>(fs: FsId, lines: &[u32], parts: &mut Vec<Part<'a>>) -> Result<(), AllocError>
+    ensures { OnOk result (map item_of parts.new.items ≡ map item_of parts.old.items ++ spec.line_items fs.0 lines.now) }
 {
     match lines {
         [] => Ok(()),
         [first, others @ ..] => {
-            push_line_link(fs, *first, page)?;
-            push_later_links(fs, others, page)
+            push_all(&[Part::LineLink(fs, *first)], parts)?;
+            push_later_lines(fs, others, parts)
         }
     }
 }
 
 /// Adds the links behind the first.
-fn push_later_links(fs: FsId, lines: &[u32], page: &mut String) -> Result<(), AllocError>
-    ensures { OnOk result (string_bytes page.new ≡ string_bytes page.old ++ flat_map (λ line. codes ", " ++ line_link fs.0 line) lines.now) }
+fn push_later_lines<'a>(
+    fs: FsId,
+    lines: &[u32],
+    parts: &mut Vec<Part<'a>>,
+) -> Result<(), AllocError>
+    ensures { OnOk result (map item_of parts.new.items ≡ map item_of parts.old.items ++ flat_map (λ line. comma ∷ spec.line_item fs.0 line) lines.now) }
 {
     for line in lines {
-        page.push_str(", ")?;
-        push_line_link(fs, *line, page)?;
+        push_all(&[Part::Words(", "), Part::LineLink(fs, *line)], parts)?;
     }
     Ok(())
 }
 
-/// Adds to whom the server grants more, by which line, and what that lists.
-fn push_wider(fs: FsId, found: &WiderGrant<'_>, page: &mut String) -> Result<(), AllocError>
-    ensures { OnOk result (string_bytes page.new ≡ string_bytes page.old ++ spec.wider fs.0 found.now) }
+/// Adds to whom the server grants more, and by which line.
+fn push_wider<'a>(
+    fs: FsId,
+    found: &WiderGrant<'a>,
+    parts: &mut Vec<Part<'a>>,
+) -> Result<(), AllocError>
+    ensures { OnOk result (map item_of parts.new.items ≡ map item_of parts.old.items ++ spec.wider fs.0 found.now) }
 {
-    page.push_str("mountd(8) grants more: to ")?;
-    push_address(found.address, page)?;
-    page.push_str(" ")?;
-    push_line_link(fs, found.other, page)?;
-    push_listed(found.directory, page)
+    let words = [
+        Part::Words("mountd(8) grants more: to "),
+        Part::Range(only(found.address)),
+        Part::Words(" "),
+        Part::LineLink(fs, found.other),
+    ];
+    push_all(&words, parts)?;
+    push_all(&listed(found.directory), parts)
 }
 
-/// Adds what a line lists more.
-fn push_listed(directory: Option<&Path>, page: &mut String) -> Result<(), AllocError>
-    ensures { OnOk result (string_bytes page.new ≡ string_bytes page.old ++ spec.listed (option_copied directory.entry)) }
+/// Returns what a line lists more: a directory, or every one.
+fn listed<'a>(directory: Option<&'a Path>) -> [Part<'a>; 3]
+    ensures { map item_of result ≡ spec.listed (option_copied directory.entry) }
 {
     match directory {
-        Some(directory) => push_listed_directory(directory, page),
-        None => page.push_str(" lists every directory of the file system (<code>-alldirs</code>)"),
+        Some(directory) => [
+            Part::Words(" lists "),
+            Part::Code(directory.text()),
+            Part::Words(" too"),
+        ],
+        None => [
+            Part::Words(" lists every directory of the file system ("),
+            Part::Word("-alldirs"),
+            Part::Words(")"),
+        ],
     }
 }
 
-/// Adds the directory that it lists more.
-fn push_listed_directory(directory: &Path, page: &mut String) -> Result<(), AllocError>
-    ensures { OnOk result (string_bytes page.new ≡ string_bytes page.old ++ spec.listed_directory directory.now) }
+/// Returns that the server may leave a line out, since an earlier one has a client of it.
+fn repeated<'a>(fs: FsId, found: &RepeatedClient) -> [Part<'a>; 4]
+    ensures { map item_of result ≡ spec.repeated fs.0 found.now }
 {
-    page.push_str(" lists ")?;
-    push_code(directory.text(), page)?;
-    page.push_str(" too")
+    [
+        Part::Words("mountd(8) may leave this line out: "),
+        Part::LineLink(fs, found.other),
+        Part::Words(" has "),
+        Part::Range(only(found.address)),
+    ]
 }
 
-/// Adds that the server may leave a line out, since an earlier one has a client of it.
-fn push_repeated(fs: FsId, found: &RepeatedClient, page: &mut String) -> Result<(), AllocError>
-    ensures { OnOk result (string_bytes page.new ≡ string_bytes page.old ++ spec.repeated fs.0 found.now) }
+/// Returns the range of one address.
+fn only(address: Addr) -> Span
+    ensures { result ≡ spec.only address }
 {
-    page.push_str("mountd(8) may leave this line out: ")?;
-    push_line_link(fs, found.other, page)?;
-    page.push_str(" has ")?;
-    push_address(found.address, page)
-}
-
-/// Adds an address.
-fn push_address(address: Addr, page: &mut String) -> Result<(), AllocError>
-    ensures { OnOk result (string_bytes page.new ≡ string_bytes page.old ++ addr_text (number_of address)) }
-{
-    write!(page, "{address}")
+    Span {
+        first: address,
+        last: address,
+    }
 }

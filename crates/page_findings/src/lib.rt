@@ -19,6 +19,7 @@ pub mod figures;
 pub mod finding_words;
 pub mod findings;
 pub mod flavours;
+mod joining;
 pub mod laws;
 pub mod lines;
 mod lists;
@@ -27,11 +28,12 @@ pub mod reasons;
 pub mod server;
 
 pub use badges::{
-    push_badge, push_class_parts, push_class_words, push_count_words, push_level_mark,
+    Measure, badge_part, level_part, measured, push_badge, push_class_parts, push_class_words,
+    push_count_words, push_level_mark,
 };
 pub use deciding::{Deciding, NeverDecides, deciding_lines};
 pub use figures::{Figures, figures_of_site};
-pub use finding_words::{Finding, push_finding_words, push_flavour_names};
+pub use finding_words::{Finding, finding_parts, push_finding_words, push_flavour_names};
 pub use findings::findings_of_site;
 pub use flavours::{FlavourUse, flavours_in_use};
 pub use laws::counted_lines_grant;

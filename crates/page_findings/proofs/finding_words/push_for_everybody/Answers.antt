@@ -1,17 +1,17 @@
-use Rattle.std.proofs.Common.{◌++◌, ◌∙◌, ap, codes}
-use Rattle.std.specs.String.{string_bytes}
-use Rattle.page_findings.specs.FindingWords.{flavour_names}
-use Rattle.desk_page.proofs.Gaining.{four_pieces}
+use Rattle.std.proofs.Common.{◌++◌, ◌∷◌, ◌∙◌, [], ap, codes, map}
+use Rattle.std.proofs.lemmas.Result.{on_ok_weaker}
+use Rattle.page_html.specs.Items.{Own, Words}
+use Rattle.page_html.specs.Parts.{item_of}
+use Rattle.page_findings.specs.FindingWords.{flavour_items}
+use Rattle.page_findings.proofs.Gathering.{two_parts}
 use Rattle.page_findings.proofs.finding_words.push_for_everybody.Goals as goal
 
 pub returns : goal.returns
 returns c =
-    let s0 = string_bytes c.args.page.now in
-    let s1 = string_bytes c.push_str.new.self in
-    let s2 = string_bytes c.push_str-2.new.self in
-    let s3 = string_bytes c.push_str-3.new.self in
-    let s4 = string_bytes c.push_flavour_names.new.page in
-    four_pieces s0 s1 s2 s3 s4
-    (codes "for everybody, ") c.args.access.now (codes ", sec=") (flavour_names c.args.terms.now.flavours)
-    c.in_ok-push_str.ensures.bytes c.in_ok-push_str-2.ensures.bytes c.in_ok-push_str-3.ensures.bytes
-    (c.in_ok-push_flavour_names.ensures ∙ ap (λ flavours. s3 ++ flavour_names flavours) c.as_slice.ensures)
+    let one = map item_of c.push_all.new.parts.items in
+    on_ok_weaker c.push_flavours.result
+    (λ added. two_parts (map item_of c.args.parts.now.items) one (map item_of c.push_flavours.new.parts.items)
+    (Own (Words (codes "for everybody, ")) ∷ Own (Words c.args.access.now) ∷ Own (Words (codes ", sec=")) ∷ []) (flavour_items c.args.terms.now.flavours)
+    c.in_ok-push_all.ensures
+    (added ∙ ap (λ flavours. one ++ flavour_items flavours) c.as_slice.ensures))
+    c.push_flavours.ensures

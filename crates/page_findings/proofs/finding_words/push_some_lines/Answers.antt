@@ -1,18 +1,21 @@
-use Rattle.std.proofs.Common.{◌<◌, arith, length}
-use Rattle.std.specs.String.{string_bytes}
+use Rattle.std.proofs.Common.{◌≡◌, ◌++◌, ◌∙◌, [], ◌∷◌, ap, drop, length, map, take}
+use Rattle.std.proofs.lemmas.List.{drop_min, take_min}
 use Rattle.std.proofs.lemmas.Result.{on_ok_weaker}
-use Rattle.page_findings.specs.FindingWords.{line_links}
-use Rattle.desk_page.specs.Amounts.{and_more}
-use Rattle.desk_page.proofs.Gaining.{split_pieces}
+use Rattle.page_html.specs.Items.{AndMore, Own}
+use Rattle.page_html.specs.Parts.{item_of}
+use Rattle.page_findings.specs.FindingWords.{line_items}
+use Rattle.page_findings.proofs.Gathering.{two_parts}
 use Rattle.page_findings.proofs.finding_words.push_some_lines.Goals as goal
 
 pub returns : goal.returns
 returns c =
     let all = c.args.lines.now in
-    let many : 6 < length all = omega (arith, c.if-lines-le-MOST_DECIDING.false) in
-    let parts = c.split_at.result in
-    on_ok_weaker c.push_and_more.result
-    (split_pieces all parts.0.now parts.1.now 6 (line_links c.args.fs.0) (line_links c.args.fs.0) (λ others. and_more (length others))
-    (string_bytes c.args.page.now) (string_bytes c.push_line_links-2.new.page) (string_bytes c.push_and_more.new.page)
-    many c.split_at.ensures.front c.split_at.ensures.back c.in_ok-push_line_links.ensures)
-    c.push_and_more.ensures
+    let start = map item_of c.args.parts.now.items in
+    let one = map item_of c.push_lines.new.parts.items in
+    let named : c.split_at.result.0.now ≡ take 6 all = c.split_at.ensures.front ∙ ap (λ n. take n all) c.min.ensures ∙ take_min 6 all in
+    let others : c.split_at.result.1.now ≡ drop 6 all = c.split_at.ensures.back ∙ ap (λ n. drop n all) c.min.ensures ∙ drop_min 6 all in
+    on_ok_weaker c.push_all.result
+    (λ added. two_parts start one (map item_of c.push_all.new.parts.items) (line_items c.args.fs.0 (take 6 all)) (Own (AndMore (length (drop 6 all))) ∷ [])
+    (c.in_ok-push_lines.ensures ∙ ap (λ lines. start ++ line_items c.args.fs.0 lines) named)
+    (added ∙ ap (λ some. one ++ Own (AndMore (length some)) ∷ []) others))
+    c.push_all.ensures
