@@ -11,7 +11,7 @@ use Rattle.desk_core.specs.declared.proposal.Proposal.{Proposal}
 use Rattle.desk_store.specs.Desk.{History}
 use Rattle.desk_store.specs.Open.{IsOurs, IsProject}
 use Rattle.desk_service.specs.declared.refused.Refused.TheVariants as refused
-use Rattle.desk_report_page.specs.Page.{IsPageOf}
+use Rattle.page_site.specs.Page.{IsPageOf}
 use Rattle.cli_output.specs.Failure.{IsUnread}
 use Rattle.cli_output.specs.declared.failure.Failure.{Failure}
 use Rattle.cli_output.specs.declared.printed.Printed.{Printed}

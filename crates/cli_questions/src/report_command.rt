@@ -14,9 +14,9 @@ use cli_output::printed::Printed;
 use cli_words::words::required;
 use desk_core::{Head, can_be_kept};
 use desk_index::Index;
-use desk_report_page::page_of_state;
 use desk_service::lend_state;
 use desk_store::Desk;
+use page_site::page_of_state;
 use sqlite::Alter;
 use std::alloc::Global;
 

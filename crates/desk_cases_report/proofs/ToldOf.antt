@@ -4,11 +4,11 @@ use Rattle.std.proofs.lemmas.List.{get_or-map, length-map}
 use Rattle.desk_text.specs.Path.{read_path}
 use Rattle.desk_impact.specs.Sections.{section_value}
 use Rattle.desk_policy.specs.Policy.{Content}
-use Rattle.desk_report.specs.Classes.{class_run}
-use Rattle.desk_report.specs.Laws.{IsSoundSite, OrdersTellVerdicts, TellVerdicts}
-use Rattle.desk_report.specs.Systems.{AreSystems, IsSystem, system_value}
-use Rattle.desk_report.specs.Values.{AreRunsOfSome}
-use Rattle.desk_report.specs.declared.systems.FileSystemReport.{FileSystemReport}
+use Rattle.page_data.specs.Classes.{class_run}
+use Rattle.page_data.specs.Laws.{IsSoundSite, OrdersTellVerdicts, TellVerdicts}
+use Rattle.page_data.specs.Systems.{AreSystems, IsSystem, system_value}
+use Rattle.page_data.specs.Values.{AreRunsOfSome}
+use Rattle.page_data.specs.declared.systems.FileSystemReport.{FileSystemReport}
 
 abbrev value_or : {X F : Type 0} → X → Result X F → X
 value_or other (Ok value) = value

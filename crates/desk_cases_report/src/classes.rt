@@ -1,13 +1,13 @@
 //! Questions on the most that clients may.
 
 ghost use Rattle.std.specs.Prelude.{map};
-ghost use Rattle.desk_report.specs.Classes.{class_run};
-ghost use Rattle.desk_report.specs.Values.{AreRunsOfSome};
+ghost use Rattle.page_data.specs.Classes.{class_run};
+ghost use Rattle.page_data.specs.Values.{AreRunsOfSome};
 
 use desk_cases_texts::answers::Asked;
-use desk_report::{Class, FileSystemReport, classes_of_site, counts_within};
 use desk_text::{Net, NetText};
 use desk_who::Run;
+use page_data::{Class, FileSystemReport, classes_of_site, counts_within};
 use std::alloc::{AllocError, Global};
 
 /// `classes`: the most that clients may on any file system.

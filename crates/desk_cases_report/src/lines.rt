@@ -3,15 +3,15 @@
 ghost use Rattle.std.specs.Prelude.{map};
 ghost use Rattle.page_findings.specs.Deciding.{AreInLineOrder, AreSectionsOf, deciding_value};
 ghost use Rattle.desk_impact.specs.Sections.{section_value};
-ghost use Rattle.desk_report.specs.Laws.{IsSound};
-ghost use Rattle.desk_report.specs.Lines.{AreLineReasons};
+ghost use Rattle.page_data.specs.Laws.{IsSound};
+ghost use Rattle.page_data.specs.Lines.{AreLineReasons};
 
 use crate::classes::add_bar;
 use desk_cases_texts::answers::Asked;
 use desk_policy::Policy;
-use desk_report::{FileSystemReport, Level, LineGrants, LineReasons, Reason};
 use desk_tables::FsId;
 use desk_text::Path;
+use page_data::{FileSystemReport, Level, LineGrants, LineReasons, Reason};
 use page_findings::{Deciding, deciding_lines};
 use std::alloc::{AllocError, Global};
 

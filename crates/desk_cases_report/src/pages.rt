@@ -5,10 +5,10 @@ use desk_cases_texts::answers::Asked;
 use desk_cases_texts::sites::say_fault;
 use desk_core::{State, can_be_kept, can_be_pending};
 use desk_index::Index;
-use desk_report_page::page_of_state;
 use page_lists::text_digest;
-use std::alloc::Global;
+use page_site::page_of_state;
 use std::mem;
+use std::alloc::Global;
 
 /// `page DB`: the page for this word, of a database with the revisions and the proposals that were kept, which are then forgotten: the
 /// SHA-256 of the page, and how many bytes it has; or the fault of the site.

@@ -2,16 +2,16 @@
 
 ghost use Rattle.std.specs.Prelude.{All, map};
 ghost use Rattle.desk_impact.specs.Sections.{section_value};
-ghost use Rattle.desk_report.specs.Groups.{group_value};
-ghost use Rattle.desk_report.specs.Laws.{TellVerdicts};
-ghost use Rattle.desk_report.specs.Tables.{CanBeTabled};
+ghost use Rattle.page_data.specs.Groups.{group_value};
+ghost use Rattle.page_data.specs.Laws.{TellVerdicts};
+ghost use Rattle.page_data.specs.Tables.{CanBeTabled};
 
 use crate::classes::say;
 use desk_cases_texts::answers::{Asked, end_list};
 use desk_cases_texts::policies::say_verdict;
 use desk_impact::{Place, Section};
 use desk_policy::Policy;
-use desk_report::{Group, TableRow, classes_from, groups_can_be_tabled, groups_of, table_of};
+use page_data::{Group, TableRow, classes_from, groups_can_be_tabled, groups_of, table_of};
 use std::alloc::{AllocError, Global};
 
 /// `places FS`: the places of the file system, with `|` between groups of those that are granted alike: `/a /a/b|other directories`.

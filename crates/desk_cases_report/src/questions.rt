@@ -5,20 +5,20 @@
 ghost use Rattle.std.specs.Prelude.{◌≡◌, [], map};
 ghost use Rattle.desk_impact.specs.Sections.{section_value};
 ghost use Rattle.desk_policy.specs.Site.{HaveReadableLengths, texts_of};
-ghost use Rattle.desk_report.specs.Classes.{class_run};
-ghost use Rattle.desk_report.specs.Laws.{IsSoundSite, TellVerdicts};
-ghost use Rattle.desk_report.specs.Systems.{AreSystems, system_value};
-ghost use Rattle.desk_report.specs.Values.{AreRunsOfSome};
+ghost use Rattle.page_data.specs.Classes.{class_run};
+ghost use Rattle.page_data.specs.Laws.{IsSoundSite, TellVerdicts};
+ghost use Rattle.page_data.specs.Systems.{AreSystems, system_value};
+ghost use Rattle.page_data.specs.Values.{AreRunsOfSome};
 
-use crate::subject::Subject;
 use crate::{classes, lines, pages, places, revisions, standing};
+use crate::subject::Subject;
 use desk_cases_texts::answers::{Asked, number, split};
 use desk_cases_texts::indexes::add_by_keys;
 use desk_cases_texts::sites::say_fault;
 use desk_index::Index;
 use desk_policy::{Plain, Policy, PolicyView, compile};
-use desk_report::{FileSystemReport, orders_tell_verdicts, sites_are_sound, systems_of_site};
 use desk_text::Path;
+use page_data::{FileSystemReport, orders_tell_verdicts, sites_are_sound, systems_of_site};
 use std::alloc::Global;
 
 /// Answers a question on a page, on what a report tells, or on the texts of the site and the policy that they write.

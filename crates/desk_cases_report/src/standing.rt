@@ -5,19 +5,19 @@ ghost use Rattle.std.specs.Prelude.{◌≡◌, [], map};
 ghost use Rattle.page_findings.specs.Deciding.{AreSectionsOf};
 ghost use Rattle.desk_impact.specs.Sections.{section_value};
 ghost use Rattle.desk_policy.specs.Site.{HaveReadableLengths, texts_of};
-ghost use Rattle.desk_report.specs.Grants.{AreGrants};
-ghost use Rattle.desk_report.specs.Laws.{IsSound, IsSoundSite};
+ghost use Rattle.page_data.specs.Grants.{AreGrants};
+ghost use Rattle.page_data.specs.Laws.{IsSound, IsSoundSite};
 
 use crate::lines;
 use desk_cases_texts::answers::{Asked, number, split};
 use desk_cases_texts::sites::say_fault;
 use desk_index::Index;
 use desk_policy::{PolicyView, compile};
-use desk_report::{
-    FileSystemReport, reasons_of_lines, server_findings, sites_are_sound, systems_of_site,
-};
 use desk_tables::FsId;
 use desk_text::Path;
+use page_data::{
+    FileSystemReport, reasons_of_lines, server_findings, sites_are_sound, systems_of_site,
+};
 use std::alloc::Global;
 
 /// Answers by an index, or with the fault of the site.

@@ -7,11 +7,11 @@ use Rattle.std.proofs.lemmas.List.Elements.{All-append, All-push}
 use Rattle.std.proofs.lemmas.List.FromFn.{map-range_with_len_more}
 use Rattle.desk_policy.specs.Policy.{Content, rows_of}
 use Rattle.desk_policy.specs.declared.row.Row.{Row}
-use Rattle.desk_report.specs.Grants.{AreGrants}
-use Rattle.desk_report.specs.Lines.{AreLineReasons}
-use Rattle.desk_report.specs.Systems.{AreSystems, SystemValue, system_value}
-use Rattle.desk_report.specs.declared.lines.LineReasons.{LineReasons}
-use Rattle.desk_report.specs.declared.systems.FileSystemReport.{FileSystemReport}
+use Rattle.page_data.specs.Grants.{AreGrants}
+use Rattle.page_data.specs.Lines.{AreLineReasons}
+use Rattle.page_data.specs.Systems.{AreSystems, SystemValue, system_value}
+use Rattle.page_data.specs.declared.lines.LineReasons.{LineReasons}
+use Rattle.page_data.specs.declared.systems.FileSystemReport.{FileSystemReport}
 use Rattle.page_findings.specs.Lines.{AreLinesOfSite, AreReasonsOfSite, IsLineOf, LineValue, placed, placed_in, rows_in}
 use Rattle.page_findings.specs.PrivateLines.{AddsLines}
 

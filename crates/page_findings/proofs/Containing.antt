@@ -3,7 +3,7 @@ use Rattle.std.proofs.Common.{◌≡◌, ℕ, true, List, [], ◌∷◌, arith, 
 use Rattle.std.specs.Prelude.{◌==◌, Contains}
 use Rattle.std.proofs.lemmas.Bool.{eq-eqb, eqb-true, or_cases, or_left, or_right, true≢false}
 use Rattle.desk_text.specs.AddrSet.{is_among}
-use Rattle.desk_report.proofs.Containing.{here, here_or_there, there}
+use Rattle.page_data.proofs.Containing.{here, here_or_there, there}
 
 pub none_there : {X : Type 0} (x : X) → Contains [] x → ⊥
 none_there x has = (let lt = has.1 in omega arith)

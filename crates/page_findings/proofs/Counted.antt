@@ -5,8 +5,8 @@ use Rattle.std.specs.List.{range_with_len}
 use Rattle.std.proofs.lemmas.Bool.{cases_Bool, cases_eq, lt-ltb, ltb-true}
 use Rattle.std.proofs.lemmas.List.Sums.{sum_by-cons}
 use Rattle.desk_policy.specs.Policy.{Content}
-use Rattle.desk_report.specs.Counts.{count_within}
-use Rattle.desk_report.specs.Grants.{GrantsTo, HoldsOf}
+use Rattle.page_data.specs.Counts.{count_within}
+use Rattle.page_data.specs.Grants.{GrantsTo, HoldsOf}
 use Rattle.page_findings.specs.Laws.{CountedLinesGrant, GrantsSomething}
 
 module _ (test : ℕ → Bool) where

@@ -11,7 +11,7 @@ use Rattle.desk_policy.specs.Keys.{HasBlock}
 use Rattle.desk_policy.specs.Policy.{Content}
 use Rattle.desk_policy.specs.Weights.{name_weight, weight_by}
 use Rattle.desk_impact.specs.Sections.{PlaceBreaches}
-use Rattle.desk_report.proofs.Granted.{from_flat, to_flat}
+use Rattle.page_data.proofs.Granted.{from_flat, to_flat}
 use Rattle.page_findings.specs.Deciding.{AreSectionsOf}
 use Rattle.page_findings.specs.PrivateDeciding.{lines_between, lines_for}
 use Rattle.page_findings.proofs.Containing.{among_contains, contains_among, none_there}

@@ -5,9 +5,9 @@ use Rattle.std.specs.Option.{option_to_list}
 use Rattle.std.proofs.lemmas.Bool.{and_from, and_parts, cases_lt, le-leb, leb-true}
 use Rattle.desk_policy.specs.Policy.{Content}
 use Rattle.desk_impact.specs.Sections.{PlaceBreaches}
-use Rattle.desk_report.proofs.Containing.{here, here_or_there}
-use Rattle.desk_report.proofs.Granted.{from_flat, to_flat}
-use Rattle.desk_report.proofs.Grouped.{in_kept, kept_in}
+use Rattle.page_data.proofs.Containing.{here, here_or_there}
+use Rattle.page_data.proofs.Granted.{from_flat, to_flat}
+use Rattle.page_data.proofs.Grouped.{in_kept, kept_in}
 use Rattle.page_findings.specs.Deciding.{AreSectionsOf}
 use Rattle.page_findings.specs.PrivateDeciding.{lines_at, lines_between, meets, named_in, named_line}
 use Rattle.page_findings.proofs.Containing.{none_there}

@@ -8,7 +8,7 @@ use Rattle.std.proofs.lemmas.List.{get_or-map, length-map}
 use Rattle.std.proofs.lemmas.List.Kept.{AllPairs-filter}
 use Rattle.desk_policy.specs.Policy.{AreAscending}
 use Rattle.desk_policy.specs.declared.row.Row.{Row}
-use Rattle.desk_report.specs.declared.lines.LineReasons.{LineReasons}
+use Rattle.page_data.specs.declared.lines.LineReasons.{LineReasons}
 use Rattle.page_findings.specs.Deciding.{AreInLineOrder, DecidedFor, deciding_of, never_decides}
 use Rattle.page_findings.specs.PrivateDeciding.{Ascend, if_line, is_line}
 use Rattle.page_findings.specs.declared.deciding.NeverDecides.{NeverDecides}

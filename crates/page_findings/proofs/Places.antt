@@ -16,10 +16,10 @@ use Rattle.desk_who.specs.Runs.{AreRuns, Ascend, HasValue, Run, holds}
 use Rattle.desk_idle.specs.Idle.{names_line}
 use Rattle.desk_impact.specs.Places.{place_verdict}
 use Rattle.desk_impact.specs.Sections.{HasPathFor, HasPlaceFor, PlaceBreaches, PlacesTellScope}
-use Rattle.desk_report.specs.Sections.{AreVerdictsAt, is_section_in, path_at}
-use Rattle.desk_report.proofs.AllRows.{from_map, to_map}
-use Rattle.desk_report.proofs.Grouped.{in_kept, kept_in}
-use Rattle.desk_report.proofs.Standing.{named_fs, path_named, place_named, same_fs}
+use Rattle.page_data.specs.Sections.{AreVerdictsAt, is_section_in, path_at}
+use Rattle.page_data.proofs.AllRows.{from_map, to_map}
+use Rattle.page_data.proofs.Grouped.{in_kept, kept_in}
+use Rattle.page_data.proofs.Standing.{named_fs, path_named, place_named, same_fs}
 use Rattle.page_findings.specs.Deciding.{AreSectionsOf}
 use Rattle.page_findings.specs.PrivateDeciding.{AllInOrder, AreInOrder, named_line}
 

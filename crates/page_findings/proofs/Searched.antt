@@ -14,7 +14,7 @@ use Rattle.desk_who.specs.declared.runs.Run.{Run}
 use Rattle.desk_impact.specs.Sections.{Section, section_value}
 use Rattle.desk_who.proofs.Slices.{first_pass, last_pass}
 use Rattle.desk_impact.proofs.Telling.{map-filter}
-use Rattle.desk_report.proofs.OfLine.{filter_both}
+use Rattle.page_data.proofs.OfLine.{filter_both}
 use Rattle.page_findings.specs.PrivateDeciding.{AllInOrder, AreInOrder, meets}
 
 -- the ranges of one of the places

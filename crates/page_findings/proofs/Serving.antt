@@ -3,8 +3,8 @@ use Rattle.std.proofs.Common.{◌≡◌, ℕ, ◌+◌, ◌<◌, ◌++◌, ◌∙
 use Rattle.std.proofs.lemmas.Bool.{cases_eq}
 use Rattle.std.proofs.lemmas.List.{get_or_append_left, get_or_push, length-append}
 use Rattle.desk_policy.specs.Policy.{Content}
-use Rattle.desk_report.specs.Server.{AreServerFindings}
-use Rattle.desk_report.specs.declared.server.ServerFindings.{ServerFindings}
+use Rattle.page_data.specs.Server.{AreServerFindings}
+use Rattle.page_data.specs.declared.server.ServerFindings.{ServerFindings}
 use Rattle.page_findings.specs.Server.{AreServerOfSite}
 
 -- those of the first so many file systems

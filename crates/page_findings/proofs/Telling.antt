@@ -3,8 +3,8 @@ use Rattle.std.proofs.Common.{◌≡◌, ℕ, ◌+◌, ◌<◌, ◌++◌, ◌∙
 use Rattle.std.proofs.lemmas.Bool.{cases_eq}
 use Rattle.std.proofs.lemmas.List.{get_or_append_left, get_or_push, length-append}
 use Rattle.desk_policy.specs.Policy.{Content}
-use Rattle.desk_report.specs.Lines.{AreLineReasons}
-use Rattle.desk_report.specs.declared.lines.LineReasons.{LineReasons}
+use Rattle.page_data.specs.Lines.{AreLineReasons}
+use Rattle.page_data.specs.declared.lines.LineReasons.{LineReasons}
 use Rattle.page_findings.specs.Lines.{AreReasonsOfSite}
 
 -- those of the first so many file systems

@@ -11,8 +11,8 @@ use Rattle.desk_policy.specs.Keys.{HasBlock}
 use Rattle.desk_policy.specs.Policy.{Content, rows_of}
 use Rattle.desk_policy.specs.declared.row.Row.{Row}
 use Rattle.desk_impact.specs.Sections.{PlaceBreaches, PlacesTellScope}
-use Rattle.desk_report.specs.declared.lines.LineReasons.{LineReasons}
-use Rattle.desk_report.proofs.Gathered.{take_next}
+use Rattle.page_data.specs.declared.lines.LineReasons.{LineReasons}
+use Rattle.page_data.proofs.Gathered.{take_next}
 use Rattle.page_findings.specs.Deciding.{AreDeciding, AreSectionsOf, DecidedFor, DecidesFor, IsDecidedFor, never_decides}
 use Rattle.page_findings.specs.PrivateDeciding.{IsListed, IsWithLine, lines_for}
 use Rattle.page_findings.specs.declared.deciding.NeverDecides.{NeverDecides}

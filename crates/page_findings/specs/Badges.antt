@@ -1,10 +1,10 @@
 -- Badges of classes, marks of levels, and how many addresses are of which class. (this project's own)
 use Rattle.std.specs.Prelude.{ℕ, ◌==◌, ◌^◌, List, [], ◌∷◌, ◌++◌, codes, if◌then◌else◌}
-use Rattle.desk_report.specs.declared.class.Class.{Class}
-use Rattle.desk_report.specs.declared.class.Class.TheVariants.{Denied, ReadOnly, ReadWrite, RootKept}
-use Rattle.desk_report.specs.declared.counts.Counts.{Counts}
-use Rattle.desk_report.specs.declared.reasons.Level.{Level}
-use Rattle.desk_report.specs.declared.reasons.Level.TheVariants.{LookFirst, Check}
+use Rattle.page_data.specs.declared.class.Class.{Class}
+use Rattle.page_data.specs.declared.class.Class.TheVariants.{Denied, ReadOnly, ReadWrite, RootKept}
+use Rattle.page_data.specs.declared.counts.Counts.{Counts}
+use Rattle.page_data.specs.declared.reasons.Level.{Level}
+use Rattle.page_data.specs.declared.reasons.Level.TheVariants.{LookFirst, Check}
 use Rattle.page_html.specs.Items.{Badge, Item, Number, Own, PartOf, Space, Words, item_html, items_html}
 use Rattle.page_html.specs.Items as items
 use Rattle.page_findings.specs.Joining.{comma, joined}

@@ -8,10 +8,10 @@ use Rattle.desk_policy.specs.Weights.{weight_of}
 use Rattle.desk_policy.specs.declared.row.Row.{Row}
 use Rattle.desk_idle.specs.Idle.{names_line}
 use Rattle.desk_impact.specs.Sections.{PlaceBreaches}
-use Rattle.desk_report.specs.Sections.{AreSections, is_section_in}
-use Rattle.desk_report.specs.declared.lines.LineReasons.{LineReasons}
-use Rattle.desk_report.specs.declared.reasons.Reason.{Reason}
-use Rattle.desk_report.specs.declared.reasons.Reason.TheVariants.{NoClient, NeverDecides, ForEverybodyReadOnly, ForEverybodyReadWrite, Wide, RootKeptForNetworks, RootKeptForNames, ServerGrantsMore, RepeatedClient}
+use Rattle.page_data.specs.Sections.{AreSections, is_section_in}
+use Rattle.page_data.specs.declared.lines.LineReasons.{LineReasons}
+use Rattle.page_data.specs.declared.reasons.Reason.{Reason}
+use Rattle.page_data.specs.declared.reasons.Reason.TheVariants.{NoClient, NeverDecides, ForEverybodyReadOnly, ForEverybodyReadWrite, Wide, RootKeptForNetworks, RootKeptForNames, ServerGrantsMore, RepeatedClient}
 use Rattle.page_findings.specs.declared.deciding.Deciding.{Deciding as Kept}
 
 -- A line decides for a client of this one: the verdict for an address that this one matches, on some path of the file system, names it.

@@ -3,8 +3,8 @@ use Rattle.std.specs.Prelude.{◌≡◌, ℕ, ◌&&◌, not, Bool, List, count_b
 use Rattle.std.specs.List.{flat_map}
 use Rattle.desk_impact.specs.Places.{AreInOrder}
 use Rattle.desk_policy.specs.Policy.{Content}
-use Rattle.desk_report.specs.Class.{keeps_root}
-use Rattle.desk_report.specs.Reasons.{are_all, are_names}
+use Rattle.page_data.specs.Class.{keeps_root}
+use Rattle.page_data.specs.Reasons.{are_all, are_names}
 use Rattle.page_findings.specs.Lines.{LineValue, grants, is_read_write}
 use Rattle.page_findings.specs.declared.figures.Figures.{Figures}
 

@@ -8,11 +8,11 @@ use Rattle.desk_exports.specs.declared.entry.Flavour.{Flavour}
 use Rattle.desk_exports.specs.declared.entry.Mapping.{Mapping}
 use Rattle.desk_exports.specs.declared.entry.Mapping.TheVariants.{All, Root}
 use Rattle.desk_exports.specs.declared.entry.Terms.{Terms}
-use Rattle.desk_report.specs.declared.reasons.Reason.{Reason}
-use Rattle.desk_report.specs.declared.reasons.Reason.TheVariants.{NoClient, NeverDecides, ForEverybodyReadOnly, ForEverybodyReadWrite, Wide, RootKeptForNetworks, RootKeptForNames, ServerGrantsMore, RepeatedClient}
+use Rattle.page_data.specs.declared.reasons.Reason.{Reason}
+use Rattle.page_data.specs.declared.reasons.Reason.TheVariants.{NoClient, NeverDecides, ForEverybodyReadOnly, ForEverybodyReadWrite, Wide, RootKeptForNetworks, RootKeptForNames, ServerGrantsMore, RepeatedClient}
 use Rattle.desk_server.specs.declared.repeated_client.RepeatedClient.{RepeatedClient as Repeated}
 use Rattle.desk_server.specs.declared.wider_grant.WiderGrant.{WiderGrant}
-use Rattle.desk_page.specs.declared.ranges.Span.{Span}
+use Rattle.page_html.specs.declared.ranges.Span.{Span}
 use Rattle.page_html.specs.Items.{AndMore, Code, Item, LineLink, Own, Range, Word, Words, items_html}
 use Rattle.page_findings.specs.Joining.{comma, joined}
 use Rattle.page_findings.specs.declared.finding_words.Finding.{Finding}

@@ -3,9 +3,9 @@ use Rattle.std.specs.Prelude.{ℕ, ◌==◌, ◌-◌, ◌^◌, ◌∷◌, [], Bo
 use Rattle.std.specs.Cmp.Lexicographic.{slice_cmp}
 use Rattle.std.specs.List.Sorted.{IsPermutation, IsSortedByKey}
 use Rattle.std.specs.Ordering.{nat_cmp}
-use Rattle.desk_report.specs.Reasons.{level_of_all}
-use Rattle.desk_report.specs.declared.reasons.Level.{Level}
-use Rattle.desk_report.specs.declared.reasons.Level.TheVariants.{LookFirst, Check}
+use Rattle.page_data.specs.Reasons.{level_of_all}
+use Rattle.page_data.specs.declared.reasons.Level.{Level}
+use Rattle.page_data.specs.declared.reasons.Level.TheVariants.{LookFirst, Check}
 use Rattle.page_findings.specs.Lines.{LineValue}
 
 -- a line stands out: for some reason

@@ -1,7 +1,7 @@
 -- What the counts of a site's lines tell. (this project's own)
 use Rattle.std.specs.Prelude.{◌≡◌, ◌↔◌, ℕ, ◌<◌, ◌^◌, true}
 use Rattle.desk_policy.specs.Policy.{Content}
-use Rattle.desk_report.specs.Grants.{GrantsTo}
+use Rattle.page_data.specs.Grants.{GrantsTo}
 use Rattle.page_findings.specs.Lines.{IsLineOf, LineValue, grants}
 
 -- a line of a file system grants something to this address

@@ -4,10 +4,10 @@ use Rattle.std.specs.List.{flat_map, range_with_len}
 use Rattle.desk_exports.specs.declared.entry.Flavour.{Flavour}
 use Rattle.desk_policy.specs.Policy.{Content, rows_of}
 use Rattle.desk_policy.specs.declared.row.Row.{Row}
-use Rattle.desk_report.specs.Grants.{GrantsTo, HoldsOf}
-use Rattle.desk_report.specs.Lines.{AreLineReasons, IsToldOf}
-use Rattle.desk_report.specs.declared.lines.LineReasons.{LineReasons}
-use Rattle.desk_report.specs.declared.reasons.Reason.{Reason}
+use Rattle.page_data.specs.Grants.{GrantsTo, HoldsOf}
+use Rattle.page_data.specs.Lines.{AreLineReasons, IsToldOf}
+use Rattle.page_data.specs.declared.lines.LineReasons.{LineReasons}
+use Rattle.page_data.specs.declared.reasons.Reason.{Reason}
 use Rattle.page_findings.specs.declared.lines.SiteLine.{SiteLine}
 
 -- a line of a file system, to how many addresses it grants something, and why it stands out

@@ -20,7 +20,7 @@ use Rattle.desk_policy.specs.declared.verdict.Denial.{Denial}
 use Rattle.desk_policy.specs.declared.verdict.Denial.TheVariants.{NoFileSystem, NoLine, NotListed}
 use Rattle.desk_who.specs.Runs.{Run}
 use Rattle.desk_impact.specs.Sections.{PlaceBreaches}
-use Rattle.desk_report.specs.declared.lines.LineReasons.{LineReasons}
+use Rattle.page_data.specs.declared.lines.LineReasons.{LineReasons}
 use Rattle.page_findings.specs.Deciding.{never_decides}
 use Rattle.page_findings.specs.declared.deciding.NeverDecides.{NeverDecides}
 use Rattle.page_findings.specs.declared.lists.Lists.{Lists}

@@ -8,7 +8,7 @@ ghost use Rattle.page_findings.specs.Badges as spec;
 ghost use Rattle.page_findings.specs.Joining.{comma};
 
 use crate::joining::push_all;
-use desk_report::{Class, Counts, Level};
+use page_data::{Class, Counts, Level};
 use page_html::{Part, push_parts};
 use std::alloc::{AllocError, Global};
 

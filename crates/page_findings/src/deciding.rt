@@ -3,7 +3,7 @@
 ghost use Rattle.std.specs.Prelude.{◌≡◌, [], IfOk, OnOk, find, map, slice_get, slice_index_or};
 ghost use Rattle.desk_policy.specs.Policy.{AreAscending, rows_of};
 ghost use Rattle.desk_impact.specs.Sections.{section_value};
-ghost use Rattle.desk_report.specs.Lines.{AreLineReasons};
+ghost use Rattle.page_data.specs.Lines.{AreLineReasons};
 ghost use Rattle.page_findings.specs.Deciding as spec;
 ghost use Rattle.page_findings.specs.Deciding.{AreDecidedFor, AreInLineOrder, AreSectionsOf, deciding_of, deciding_value};
 ghost use Rattle.page_findings.specs.PrivateDeciding.{AddsLine, AllInOrder, Ascend, if_line, is_line};
@@ -11,10 +11,10 @@ ghost use Rattle.page_findings.specs.PrivateDeciding.{AddsLine, AllInOrder, Asce
 use crate::lists::Lists;
 use desk_impact::{Section, places_tell_scope};
 use desk_policy::{Policy, Row};
-use desk_report::{LineReasons, Reason};
 use desk_tables::FsId;
 use desk_text::Sequence;
 use desk_text::laws::covers_between_first_and_last;
+use page_data::{LineReasons, Reason};
 use std::alloc::{AllocError, Global};
 
 /// A line that never decides, and the place of the list of those that do for its clients.

@@ -9,8 +9,8 @@ ghost use Rattle.page_findings.specs.Lines.{line_value};
 use crate::lines::SiteLine;
 use desk_impact::in_order;
 use desk_policy::Policy;
-use desk_report::{are_all, are_names, keeps_root};
 use desk_text::Path;
+use page_data::{are_all, are_names, keeps_root};
 use std::alloc::{AllocError, Global};
 
 /// How much there is on a site.

@@ -4,19 +4,18 @@ ghost use Rattle.std.specs.Prelude.{◌≡◌, ◌++◌, ◌∷◌, IfOk, OnOk, 
 ghost use Rattle.std.specs.List.{flat_map};
 ghost use Rattle.std.specs.Option.{option_copied};
 ghost use Rattle.std.specs.String.{string_bytes};
-ghost use Rattle.desk_report.specs.Reasons.{level_of_all};
+ghost use Rattle.page_data.specs.Reasons.{level_of_all};
 ghost use Rattle.page_html.specs.Parts.{item_of};
 ghost use Rattle.page_findings.specs.FindingWords as spec;
 ghost use Rattle.page_findings.specs.Joining.{comma};
 
 use crate::joining::push_all;
 use desk_exports::{Flavour, Mapping, Terms};
-use desk_page::Span;
-use desk_report::{Level, Reason, level_of_reasons};
 use desk_server::{RepeatedClient, WiderGrant};
 use desk_tables::FsId;
 use desk_text::{Addr, Path};
-use page_html::{Part, push_parts};
+use page_data::{Level, Reason, level_of_reasons};
+use page_html::{Part, Span, push_parts};
 use std::alloc::{AllocError, Global};
 
 /// So many of the lines that decide in place of another one are named.

@@ -6,7 +6,7 @@ ghost use Rattle.page_findings.specs.Findings.{AreFindings};
 ghost use Rattle.page_findings.specs.Lines.{line_value};
 
 use crate::lines::SiteLine;
-use desk_report::{Level, level_of_reasons};
+use page_data::{Level, level_of_reasons};
 use std::alloc::{AllocError, Global};
 
 impl SiteLine<'_> {

@@ -2,19 +2,19 @@
 
 ghost use Rattle.std.specs.Prelude.{◌≡◌, IfOk, OnOk, map};
 ghost use Rattle.desk_policy.specs.Policy.{rows_of};
-ghost use Rattle.desk_report.specs.Grants.{AreGrants};
-ghost use Rattle.desk_report.specs.Laws.{IsSoundSite};
-ghost use Rattle.desk_report.specs.Lines.{AreLineReasons};
-ghost use Rattle.desk_report.specs.Systems.{AreSystems, system_value};
+ghost use Rattle.page_data.specs.Grants.{AreGrants};
+ghost use Rattle.page_data.specs.Laws.{IsSoundSite};
+ghost use Rattle.page_data.specs.Lines.{AreLineReasons};
+ghost use Rattle.page_data.specs.Systems.{AreSystems, system_value};
 ghost use Rattle.page_findings.specs.Lines as spec;
 ghost use Rattle.page_findings.specs.Lines.{AreLinesOfSite, AreReasonsOfSite, line_value};
 ghost use Rattle.page_findings.specs.PrivateLines.{AddsLines};
 
 use desk_exports::Flavour;
 use desk_policy::{Policy, Row};
-use desk_report::{FileSystemReport, LineGrants, LineReasons, Reason};
 use desk_tables::FsId;
 use desk_text::Sequence;
+use page_data::{FileSystemReport, LineGrants, LineReasons, Reason};
 use std::alloc::{AllocError, Global};
 
 /// A line of a file system, to how many addresses it grants something, and why it stands out, if it does.

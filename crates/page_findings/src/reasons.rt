@@ -1,15 +1,15 @@
 //! Why each line of a site stands out.
 
 ghost use Rattle.std.specs.Prelude.{IfOk, map};
-ghost use Rattle.desk_report.specs.Laws.{IsSoundSite};
-ghost use Rattle.desk_report.specs.Systems.{AreSystems, system_value};
+ghost use Rattle.page_data.specs.Laws.{IsSoundSite};
+ghost use Rattle.page_data.specs.Systems.{AreSystems, system_value};
 ghost use Rattle.page_findings.specs.Lines.{AreReasonsOfSite};
 ghost use Rattle.page_findings.specs.Server.{AreServerOfSite};
 
 use desk_policy::Policy;
-use desk_report::{FileSystemReport, LineReasons, ServerFindings, reasons_of_lines};
 use desk_tables::FsId;
 use desk_text::Sequence;
+use page_data::{FileSystemReport, LineReasons, ServerFindings, reasons_of_lines};
 use std::alloc::{AllocError, Global};
 
 /// Lists why each line stands out, by file system, in the order of the table, given what is found of each file system, and what the

@@ -1,13 +1,13 @@
 //! What mountd(8) does otherwise than this desk, of each file system of a site.
 
 ghost use Rattle.std.specs.Prelude.{IfOk};
-ghost use Rattle.desk_report.specs.Laws.{IsSoundSite};
+ghost use Rattle.page_data.specs.Laws.{IsSoundSite};
 ghost use Rattle.page_findings.specs.Server.{AreServerOfSite};
 
 use desk_index::Index;
 use desk_policy::PolicyView;
-use desk_report::{ServerFindings, server_findings};
 use desk_tables::FsId;
+use page_data::{ServerFindings, server_findings};
 use std::alloc::{AllocError, Global};
 
 /// Finds where the server grants more, and which lines it may leave out, by file system, in the order of the table.

@@ -1,7 +1,7 @@
 -- Pages that differ in one text alone.
 use Rattle.std.proofs.Common.{◌≡◌, ℕ, List, ◌∷◌, ◌++◌, ◌∙◌, sym}
 use Rattle.std.proofs.lemmas.List.{append_cancel_left, append_cancel_right}
-use Rattle.desk_page.specs.Laws.{NoTextIsMarkup, TextsAreToldApart}
+use Rattle.page_html.specs.TextLaws.{NoTextIsMarkup, TextsAreToldApart}
 use Rattle.page_html.specs.Laws.{PagesAreMadeOfPieces}
 use Rattle.page_html.specs.Pages.{Piece, Attribute, Shown, ShownLine, html, piece_html}
 use Rattle.page_html.proofs.Made.{html_append, page_made}

@@ -3,3 +3,9 @@ mod Apart
 mod Lists
 mod Made
 mod Replaced
+pub mod CodesRead
+pub mod Gaining
+pub mod Gathered
+pub mod Telling
+pub mod Markup
+pub mod Threes

@@ -2,13 +2,13 @@
 use Rattle.std.proofs.Common.{◌≡◌, ℕ, suc, ◌+◌, ◌-◌, ◌<◌, ◌≤◌, ◌++◌, ◌∙◌, List, [], ◌∷◌, ap, arith, codes, drop, leb, length, take}
 use Rattle.std.proofs.lemmas.Bool.{cond-false, cond-true, le-leb, lt-leb}
 use Rattle.std.proofs.lemmas.List.{length-drop}
-use Rattle.desk_page.specs.Amounts.{and_more}
-use Rattle.desk_page.specs.Numbers.{number}
-use Rattle.desk_page.specs.Pieces.{code_list}
-use Rattle.desk_page.specs.Ranges.{folded_ranges, left_out, range_list, ranges_text}
-use Rattle.desk_page.specs.declared.ranges.Span.{Span}
+use Rattle.page_html.specs.Amounts.{and_more}
+use Rattle.page_html.specs.Numbers.{number}
+use Rattle.page_html.specs.Pieces.{code_list}
+use Rattle.page_html.specs.Ranges.{folded_ranges, left_out, range_list, ranges_text}
+use Rattle.page_html.specs.declared.ranges.Span.{Span}
 use Rattle.page_html.specs.Laws.{ListsSayWhatTheyLeaveOut}
-use Rattle.page_html.specs.Pieces.{some_codes}
+use Rattle.page_html.specs.PartPieces.{some_codes}
 
 cut : ℕ → List (List ℕ) → List ℕ
 cut most texts = code_list (take most texts) ++ and_more (length (drop most texts))

@@ -4,14 +4,14 @@ use Rattle.std.specs.Fmt.{decimal}
 use Rattle.std.specs.Prelude.{nat_le}
 use Rattle.std.specs.List.{flat_map}
 use Rattle.std.proofs.lemmas.List.{append-nil, append_assoc}
-use Rattle.desk_page.specs.Amounts.{and_more}
-use Rattle.desk_page.specs.Escaping.{attribute, escaped}
-use Rattle.desk_page.specs.Pieces.{code, code_list}
+use Rattle.page_html.specs.Amounts.{and_more}
+use Rattle.page_html.specs.Escaping.{attribute, escaped}
+use Rattle.page_html.specs.Pieces.{code, code_list}
 use Rattle.page_html.specs.Blocks.{element_end, element_start, facts_start, system_start, tag_html}
 use Rattle.page_html.specs.Head.{head_start, sheet}
 use Rattle.page_html.specs.Items.{Item, Own, Text, Code, Digest, Codes, SomeCodes, Line, System, SystemLine, item_html, items_html, own_html}
 use Rattle.page_html.specs.Pages.{Block, Head, Start, Row, MarkedRow, LineRow, Facts, In, Alone, SystemStart, Fixed, Piece, Bytes, Shown, Attribute, between, block_html, block_pieces, caption_pieces, captions_pieces, cells_pieces, code_pieces, html, item_pieces, items_pieces, label_pieces, labels_pieces, later_pieces, list_pieces, page_html, page_pieces, piece_html, row_pieces, some_pieces, start_pieces}
-use Rattle.page_html.specs.Pieces.{link_end, link_start, some_codes}
+use Rattle.page_html.specs.PartPieces.{link_end, link_start, some_codes}
 use Rattle.page_html.specs.Tables.{Column, Frame, box, box_end, box_start, caption, caption_end, caption_start, cell_end, cell_start, cells_html, class_html, heads, heads_end, line_row_start, marked_start, row_in, table_start}
 use Rattle.page_html.specs.Titles.{Title, Said, Named, Further, caption_html, captions_html, label_html, labels_html}
 

@@ -2,7 +2,7 @@
 use Rattle.std.proofs.Common.{◌≡◌, ℕ, List, [], ◌∷◌, ◌++◌, ◌∙◌, ap, map, refl, sym, codes, cond, drop, length, take, true, false}
 use Rattle.std.specs.Prelude.{nat_le}
 use Rattle.std.proofs.lemmas.List.{drop-map, length-map, map-append, take-map}
-use Rattle.desk_page.specs.Amounts.{and_more}
+use Rattle.page_html.specs.Amounts.{and_more}
 use Rattle.page_html.specs.Blocks.{element_end, element_start, facts_start}
 use Rattle.page_html.specs.Items.{Item, Own, Text, Code, Digest, Codes, SomeCodes, Line, System, SystemLine}
 use Rattle.page_html.specs.Pages.{Block, Head, Start, Row, MarkedRow, LineRow, Facts, In, Alone, SystemStart, Fixed, Piece, Bytes, between, block_pieces, block_with, caption_pieces, captions_pieces, cells_pieces, cells_with, code_pieces, item_pieces, item_with, items_pieces, label_pieces, labels_pieces, later_pieces, list_pieces, page_pieces, piece_with, row_pieces, some_pieces, start_pieces, title_with}

@@ -2,7 +2,7 @@
 use Rattle.std.specs.Prelude.{ℕ, List, ◌++◌, codes}
 use Rattle.std.specs.Fmt.{decimal}
 use Rattle.page_html.specs.Items.{Item, items_html}
-use Rattle.page_html.specs.Pieces.{within}
+use Rattle.page_html.specs.PartPieces.{within}
 use Rattle.page_html.specs.Tables.{Frame, cells_html}
 use Rattle.page_html.specs.declared.blocks.Element.{Element}
 use Rattle.page_html.specs.declared.blocks.Element.TheVariants as element

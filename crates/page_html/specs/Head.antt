@@ -1,6 +1,6 @@
 -- The head of the page. (this project's own, over the HTML Living Standard and Content Security Policy Level 3)
 use Rattle.std.specs.Prelude.{ℕ, List, ◌++◌, codes}
-use Rattle.desk_page.specs.Escaping.{attribute}
+use Rattle.page_html.specs.Escaping.{attribute}
 use Rattle.page_html.specs.declared.style.TheConstants.{STYLE}
 
 -- what stands before the policy: nothing of it is fetched or run

@@ -3,14 +3,14 @@ use Rattle.std.specs.Prelude.{ℕ, List, [], codes}
 use Rattle.std.specs.Fmt.{decimal}
 use Rattle.std.specs.List.{flat_map}
 use Rattle.desk_exports.specs.declared.entry.Terms.{Terms as MountTerms}
-use Rattle.desk_page.specs.Escaping.{attribute, escaped}
-use Rattle.desk_page.specs.Numbers.{number}
-use Rattle.desk_page.specs.Pieces.{code, code_list, line_link, system_link}
-use Rattle.desk_page.specs.Ranges.{ends_of, range_text, ranges_text}
-use Rattle.desk_page.specs.Terms.{terms_words}
-use Rattle.desk_page.specs.declared.ranges.Span.{Span}
-use Rattle.page_html.specs.Amounts.{more, part_of, plural}
-use Rattle.page_html.specs.Pieces.{badge, code_line, digest, level, link, small, small_count, small_percent, small_plural, some_codes, strong, system_line, word, zero}
+use Rattle.page_html.specs.Escaping.{attribute, escaped}
+use Rattle.page_html.specs.Numbers.{number}
+use Rattle.page_html.specs.Pieces.{code, code_list, line_link, system_link}
+use Rattle.page_html.specs.Ranges.{ends_of, range_text, ranges_text}
+use Rattle.page_html.specs.Terms.{terms_words}
+use Rattle.page_html.specs.declared.ranges.Span.{Span}
+use Rattle.page_html.specs.PartAmounts.{more, part_of, plural}
+use Rattle.page_html.specs.PartPieces.{badge, code_line, digest, level, link, small, small_count, small_percent, small_plural, some_codes, strong, system_line, word, zero}
 
 -- a part that has no text of a site: words of the page's own, numbers, and what is made of them
 pub data OwnPart : Type 0 where

@@ -2,16 +2,16 @@
 -- over Content Security Policy Level 3, 2.2.1 and 6.7.2)
 use Rattle.std.specs.Prelude.{◌≡◌, ℕ, suc, ◌+◌, ◌≤◌, ◌==◌, List, [], ◌∷◌, ◌++◌, codes, drop, length, map, take, if◌then◌else◌}
 use Rattle.std.specs.Str.{IsUtf8}
-use Rattle.desk_page.specs.Amounts.{and_more}
-use Rattle.desk_page.specs.Escaping.{attribute}
-use Rattle.desk_page.specs.Laws.{NoTextIsMarkup}
-use Rattle.desk_page.specs.Numbers.{number}
-use Rattle.desk_page.specs.Pieces.{code_list}
-use Rattle.desk_page.specs.Ranges.{left_out, range_list, ranges_text}
-use Rattle.desk_page.specs.declared.ranges.Span.{Span}
+use Rattle.page_html.specs.Amounts.{and_more}
+use Rattle.page_html.specs.Escaping.{attribute}
+use Rattle.page_html.specs.TextLaws.{NoTextIsMarkup}
+use Rattle.page_html.specs.Numbers.{number}
+use Rattle.page_html.specs.Pieces.{code_list}
+use Rattle.page_html.specs.Ranges.{left_out, range_list, ranges_text}
+use Rattle.page_html.specs.declared.ranges.Span.{Span}
 use Rattle.page_html.specs.Head.{before_policy, behind_policy, page_head, policy, sheet, style_digest}
 use Rattle.page_html.specs.Pages.{Block, Piece, Attribute, Shown, ShownLine, block_with, html, page_html, page_pieces, piece_with}
-use Rattle.page_html.specs.Pieces.{some_codes}
+use Rattle.page_html.specs.PartPieces.{some_codes}
 
 -- Each page is made of pieces. Its own bytes, and where a site's texts stand between them, are the same whatever these say: with other texts
 -- in their place, just the texts among the pieces are others. No character of a text is markup. And of two pages that differ in one text

@@ -2,13 +2,13 @@
 use Rattle.std.specs.Prelude.{ℕ, Bool, List, [], ◌∷◌, ◌++◌, codes, drop, length, map, nat_le, take, if◌then◌else◌}
 use Rattle.std.specs.Fmt.{decimal}
 use Rattle.std.specs.List.{flat_map}
-use Rattle.desk_page.specs.Amounts.{and_more}
-use Rattle.desk_page.specs.Escaping.{attribute, escaped, escaped_line}
-use Rattle.page_html.specs.Amounts.{more}
+use Rattle.page_html.specs.Amounts.{and_more}
+use Rattle.page_html.specs.Escaping.{attribute, escaped, escaped_line}
+use Rattle.page_html.specs.PartAmounts.{more}
 use Rattle.page_html.specs.Blocks.{element_end, element_html, element_start, facts_html, facts_start, system_start, tag_html}
 use Rattle.page_html.specs.Head.{head_start, page_head, sheet}
 use Rattle.page_html.specs.Items.{Item, Own, Text, Code, Digest, Codes, SomeCodes, Line, System, SystemLine, own_html}
-use Rattle.page_html.specs.Pieces.{link_end, link_start}
+use Rattle.page_html.specs.PartPieces.{link_end, link_start}
 use Rattle.page_html.specs.Tables.{Column, Frame, box_end, box_start, caption_end, caption_start, cell_end, cell_start, class_html, heads, heads_end, line_row_html, line_row_start, marked_row_html, marked_start, row_html, table_start}
 use Rattle.page_html.specs.Titles.{Title, Said, Named, Further}
 use Rattle.page_html.specs.declared.blocks.Element.{Element}

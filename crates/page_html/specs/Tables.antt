@@ -3,7 +3,7 @@ use Rattle.std.specs.Prelude.{ℕ, ◌==◌, Bool, List, [], ◌∷◌, ◌++◌
 use Rattle.std.specs.Fmt.{decimal}
 use Rattle.std.specs.List.{flat_map}
 use Rattle.page_html.specs.Items.{Item, items_html}
-use Rattle.page_html.specs.Pieces.{within}
+use Rattle.page_html.specs.PartPieces.{within}
 use Rattle.page_html.specs.Titles.{Title, captions_html, labels_html}
 use Rattle.page_html.specs.declared.tables.Column.{Column as LentColumn}
 use Rattle.page_html.specs.declared.tables.Column.TheVariants as lent

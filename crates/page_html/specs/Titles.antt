@@ -1,9 +1,9 @@
 -- The title of a table: its caption, and what the box around it is called. (this project's own, over HTML)
 use Rattle.std.specs.Prelude.{ℕ, List, map}
 use Rattle.std.specs.List.{flat_map}
-use Rattle.desk_page.specs.Escaping.{attribute}
-use Rattle.desk_page.specs.Pieces.{code}
-use Rattle.page_html.specs.Amounts.{more}
+use Rattle.page_html.specs.Escaping.{attribute}
+use Rattle.page_html.specs.Pieces.{code}
+use Rattle.page_html.specs.PartAmounts.{more}
 use Rattle.page_html.specs.declared.titles.Title.{Title as LentTitle}
 use Rattle.page_html.specs.declared.titles.Title.TheVariants as lent
 

@@ -1,67 +1,130 @@
 //! How much of something there is, in words.
 
-ghost use Rattle.std.specs.Prelude.{◌≡◌, ◌++◌, OnOk};
+ghost use Rattle.std.specs.Prelude.{◌≡◌, ◌++◌, ◌≤◌, ◌^◌, OnOk};
 ghost use Rattle.std.specs.String.{string_bytes};
 ghost use Rattle.page_html.specs.Amounts as spec;
 
-use desk_page::{push_and_more, push_attribute, push_number, push_part, push_percent};
+use crate::numbers::push_number;
 use std::alloc::{AllocError, Global};
 
-/// How many addresses there are.
-const ADDRESSES: u64 = 4_294_967_296;
-
 /// Adds so many of what the first word says of one, and the second of more.
-pub(crate) fn push_plural(
+pub fn push_plural(
     alloc: Global,
     count: u64,
-    one: &'static str,
-    more: &'static str,
+    one: &str,
+    more: &str,
     page: &mut String,
 ) -> Result<(), AllocError>
     ensures { OnOk result (string_bytes page.new ≡ string_bytes page.old ++ spec.plural count one.now more.now) }
 {
-    let word = if count == 1 { one } else { more };
     push_number(alloc, count, page)?;
-    page.push_str(" ")?;
-    push_attribute(word, page)
+    let word = if count == 1 { one } else { more };
+    write!(page, " {word}")
 }
 
-/// Adds how many more there are, behind some that are named, if there are any.
-pub(crate) fn push_more(alloc: Global, count: u64, page: &mut String) -> Result<(), AllocError>
-    ensures { OnOk result (string_bytes page.new ≡ string_bytes page.old ++ spec.more count) }
+/// Adds how many more there are, behind some that are named.
+pub fn push_and_more(alloc: Global, count: u64, page: &mut String) -> Result<(), AllocError>
+    ensures { OnOk result (string_bytes page.new ≡ string_bytes page.old ++ spec.and_more count) }
+{
+    page.push_str(" and ")?;
+    push_number(alloc, count, page)?;
+    page.push_str(" more")
+}
+
+/// Adds how much of a whole a number is.
+pub fn push_portion(alloc: Global, count: u64, whole: u64, page: &mut String) -> Result<(), AllocError>
+    requires { count ≤ whole }
+    ensures { OnOk result (string_bytes page.new ≡ string_bytes page.old ++ spec.part count whole) }
 {
     if count == 0 {
-        Ok(())
+        page.push_str("none")
+    } else if count == whole {
+        page.push_str("all")
+    } else if count > whole / 2 {
+        push_all_but(alloc, whole - count, page)
     } else {
-        push_and_more(alloc, count, page)
+        push_number(alloc, count, page)
     }
 }
 
-/// Adds how much of a whole a number is; one that is larger counts as the whole.
-pub(crate) fn push_part_of(
-    alloc: Global,
-    count: u64,
-    whole: u64,
-    page: &mut String,
-) -> Result<(), AllocError>
-    ensures { OnOk result (string_bytes page.new ≡ string_bytes page.old ++ spec.part_of count whole) }
+/// Adds that it is all but a number, before which no line is broken.
+fn push_all_but(alloc: Global, count: u64, page: &mut String) -> Result<(), AllocError>
+    ensures { OnOk result (string_bytes page.new ≡ string_bytes page.old ++ spec.all_but count) }
 {
-    if count < whole {
-        push_part(alloc, count, whole, page)
-    } else {
-        push_part(alloc, whole, whole, page)
-    }
+    page.push_str("all but&nbsp;")?;
+    push_number(alloc, count, page)?;
+    Ok(())
 }
 
-/// Adds the same as a percentage, of a whole that is not more than all addresses.
-pub(crate) fn push_percent_of(count: u64, whole: u64, page: &mut String) -> Result<(), AllocError>
-    ensures { OnOk result (string_bytes page.new ≡ string_bytes page.old ++ spec.percent_of count whole) }
+/// Adds how much of a whole a number is, as a percentage that is rounded down.
+pub fn push_percent(count: u64, whole: u64, page: &mut String) -> Result<(), AllocError>
+    requires part { count ≤ whole }
+    requires small { whole ≤ 2 ^ 32 }
+    ensures { OnOk result (string_bytes page.new ≡ string_bytes page.old ++ spec.percent count whole) }
 {
-    if ADDRESSES < whole {
-        Ok(())
-    } else if count < whole {
-        push_percent(count, whole, page)
-    } else {
+    if count == whole {
         page.push_str("100 %")
+    } else if count == 0 {
+        page.push_str("0 %")
+    } else if count * 1_000_000 < whole {
+        page.push_str("under 0.0001 %")
+    } else {
+        push_millionths(count * 1_000_000 / whole, page)
     }
+}
+
+/// Adds millionths as a percentage.
+fn push_millionths(parts: u64, page: &mut String) -> Result<(), AllocError>
+    ensures { OnOk result (string_bytes page.new ≡ string_bytes page.old ++ spec.millionths parts) }
+{
+    let percents = parts / 10_000;
+    write!(page, "{percents}")?;
+    push_four_places(parts % 10_000, page)?;
+    page.push_str(" %")
+}
+
+/// Adds a point and four digits behind it, without the zeros at the end.
+fn push_four_places(number: u64, page: &mut String) -> Result<(), AllocError>
+    ensures { OnOk result (string_bytes page.new ≡ string_bytes page.old ++ spec.four_places number) }
+{
+    if number == 0 {
+        return Ok(());
+    }
+    let first = number / 1000;
+    write!(page, ".{first}")?;
+    push_three_places(number % 1000, page)
+}
+
+/// Adds three digits.
+fn push_three_places(number: u64, page: &mut String) -> Result<(), AllocError>
+    ensures { OnOk result (string_bytes page.new ≡ string_bytes page.old ++ spec.three_places number) }
+{
+    if number == 0 {
+        return Ok(());
+    }
+    let first = number / 100;
+    write!(page, "{first}")?;
+    push_two_places(number % 100, page)
+}
+
+/// Adds two digits.
+fn push_two_places(number: u64, page: &mut String) -> Result<(), AllocError>
+    ensures { OnOk result (string_bytes page.new ≡ string_bytes page.old ++ spec.two_places number) }
+{
+    if number == 0 {
+        return Ok(());
+    }
+    let first = number / 10;
+    write!(page, "{first}")?;
+    push_one_place(number % 10, page)
+}
+
+/// Adds one digit.
+fn push_one_place(number: u64, page: &mut String) -> Result<(), AllocError>
+    ensures { OnOk result (string_bytes page.new ≡ string_bytes page.old ++ spec.one_place number) }
+{
+    if number == 0 {
+        return Ok(());
+    }
+    write!(page, "{number}")
 }

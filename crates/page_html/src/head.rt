@@ -4,8 +4,8 @@ ghost use Rattle.std.specs.Prelude.{◌≡◌, ◌++◌, OnOk};
 ghost use Rattle.std.specs.String.{string_bytes};
 ghost use Rattle.page_html.specs.Head as spec;
 
+use crate::escaping::push_attribute;
 use crate::style::STYLE;
-use desk_page::push_attribute;
 use std::alloc::AllocError;
 
 /// Adds the head of the page, with the word for the database as its title, and the style sheet. Its policy lets nothing be fetched or run,

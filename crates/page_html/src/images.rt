@@ -3,9 +3,9 @@
 ghost use Rattle.std.specs.Prelude.{◌≡◌, ◌++◌, [], OnOk};
 ghost use Rattle.std.specs.Fmt.{decimal};
 ghost use Rattle.std.specs.String.{string_bytes};
-ghost use Rattle.desk_page.specs.Numbers.{number};
+ghost use Rattle.page_html.specs.Numbers.{number};
 
-use desk_page::push_number;
+use crate::numbers::push_number;
 use std::alloc::{AllocError, Global};
 
 /// An image, which can be made of HTML of the page's own and of numbers alone.

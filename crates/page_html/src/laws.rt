@@ -3,7 +3,7 @@
 
 ghost use Rattle.page_html.specs.Laws.{ListsSayWhatTheyLeaveOut, NothingIsFetchedOrRun, PagesAreMadeOfPieces};
 
-use desk_page::{no_text_is_markup, texts_are_told_apart};
+use crate::text_laws::{no_text_is_markup, texts_are_told_apart};
 
 /// A page is made of bytes of its own, which are the same whatever a site's texts say, and of these texts, of which no character is markup
 /// and two that differ are shown differently.

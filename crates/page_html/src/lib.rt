@@ -1,4 +1,4 @@
-//! Pages of HTML: rows of typed parts, and one renderer of them.
+//! The HTML of the page: rows of typed parts and one renderer of them, over texts that are escaped, numbers, ranges and terms.
 //!
 //! ```text
 //! push_table_start(alloc, &FILES, &[Title::Said("Files")], &mut page)?;
@@ -7,23 +7,41 @@
 //! ```
 #![tactic(auto)]
 
-mod amounts;
+pub mod amounts;
 pub mod blocks;
+pub mod escaping;
+pub mod facts;
 pub mod head;
 pub mod images;
 pub mod laws;
+pub mod numbers;
+mod part_amounts;
+mod part_pieces;
 pub mod parts;
-mod pieces;
+pub mod pieces;
+pub mod ranges;
 mod style;
 pub mod tables;
+pub mod terms;
+pub mod text_laws;
+pub mod text_rows;
 pub mod titles;
 
+pub use amounts::{push_and_more, push_percent, push_plural, push_portion};
 pub use blocks::{Element, Tag, push_element, push_facts, push_fixed, push_system_start, push_tag};
+pub use escaping::{push_attribute, push_escaped, push_escaped_line};
+pub use facts::{push_guarded, push_in_force, push_kept_by, push_revision};
 pub use head::push_page_head;
 pub use images::Drawn;
-pub use laws::{
-    lists_say_what_they_leave_out, nothing_is_fetched_or_run, pages_are_made_of_pieces,
-};
+pub use laws::{lists_say_what_they_leave_out, nothing_is_fetched_or_run, pages_are_made_of_pieces};
+pub use numbers::push_number;
 pub use parts::{Part, push_part, push_parts};
+pub use pieces::{
+    push_box_start, push_code, push_code_list, push_line_link, push_system_link, push_zero,
+};
+pub use ranges::{Span, push_network, push_range, push_ranges};
 pub use tables::{Column, Frame, push_line_row, push_marked_row, push_row, push_table_start};
+pub use terms::{push_flavours, push_terms};
+pub use text_laws::{no_text_is_markup, texts_are_told_apart};
+pub use text_rows::{push_count_cell, push_line_cell, push_row_start};
 pub use titles::Title;

@@ -5,17 +5,18 @@ ghost use Rattle.std.specs.String.{string_bytes};
 ghost use Rattle.page_html.specs.Items.{item_html, items_html};
 ghost use Rattle.page_html.specs.Parts.{item_of, items_of};
 
-use crate::amounts::{push_more, push_part_of, push_plural};
+use crate::escaping::{push_attribute, push_escaped};
 use crate::images::Drawn;
-use crate::pieces::{
+use crate::numbers::push_number;
+use crate::part_amounts::{push_more, push_part_of, push_plural};
+use crate::part_pieces::{
     push_classed, push_digest, push_line, push_small_count, push_small_percent, push_small_plural,
     push_some_codes, push_system_line, push_within,
 };
+use crate::pieces::{push_code, push_code_list, push_line_link, push_system_link};
+use crate::ranges::{Span, push_range, push_ranges};
+use crate::terms::push_terms;
 use desk_exports::Terms;
-use desk_page::{
-    Span, push_attribute, push_code, push_code_list, push_escaped, push_line_link, push_number,
-    push_range, push_ranges, push_system_link, push_terms,
-};
 use desk_tables::FsId;
 use desk_text::Text;
 use std::alloc::{AllocError, Global};

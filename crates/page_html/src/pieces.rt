@@ -1,149 +1,84 @@
-//! What each part of the page comes to.
+//! Pieces of the page: texts, links and boxes.
 
-ghost use Rattle.std.specs.Prelude.{◌≡◌, ◌++◌, OnOk};
+ghost use Rattle.std.specs.Prelude.{◌≡◌, ◌++◌, OnOk, codes};
+ghost use Rattle.std.specs.List.{flat_map};
 ghost use Rattle.std.specs.String.{string_bytes};
 ghost use Rattle.page_html.specs.Pieces as spec;
 
-use crate::amounts::{push_percent_of, push_plural};
-use desk_page::{
-    push_and_more, push_attribute, push_code, push_code_list, push_escaped, push_escaped_line,
-    push_number,
-};
+use crate::escaping::{push_attribute, push_escaped};
 use desk_tables::FsId;
 use desk_text::Text;
-use std::alloc::{AllocError, Global};
+use std::alloc::AllocError;
 
-/// Adds words of the page's own between two tags.
-pub(crate) fn push_within(
-    start: &'static str,
-    words: &'static str,
-    end: &'static str,
-    page: &mut String,
-) -> Result<(), AllocError>
-    ensures { OnOk result (string_bytes page.new ≡ string_bytes page.old ++ spec.within start.now words.now end.now) }
+/// Adds a text in `code`.
+pub fn push_code(text: &str, page: &mut String) -> Result<(), AllocError>
+    ensures { OnOk result (string_bytes page.new ≡ string_bytes page.old ++ spec.code text.now) }
 {
-    page.push_str(start)?;
-    push_attribute(words, page)?;
-    page.push_str(end)
-}
-
-/// Adds words, with a word of the page's own in the tag before them.
-pub(crate) fn push_classed(
-    start: &'static str,
-    class: &'static str,
-    words: &'static str,
-    end: &'static str,
-    page: &mut String,
-) -> Result<(), AllocError>
-    ensures { OnOk result (string_bytes page.new ≡ string_bytes page.old ++ spec.classed start.now class.now words.now end.now) }
-{
-    page.push_str(start)?;
-    push_attribute(class, page)?;
-    push_within("\">", words, end, page)
-}
-
-/// Adds so many of what small words say.
-pub(crate) fn push_small_count(
-    alloc: Global,
-    count: u64,
-    words: &'static str,
-    page: &mut String,
-) -> Result<(), AllocError>
-    ensures { OnOk result (string_bytes page.new ≡ string_bytes page.old ++ spec.small_count count words.now) }
-{
-    page.push_str("<small>")?;
-    push_number(alloc, count, page)?;
-    push_within(" ", words, "</small>", page)
-}
-
-/// Adds so many of what the first small words say of one, and the second of more.
-pub(crate) fn push_small_plural(
-    alloc: Global,
-    count: u64,
-    one: &'static str,
-    more: &'static str,
-    page: &mut String,
-) -> Result<(), AllocError>
-    ensures { OnOk result (string_bytes page.new ≡ string_bytes page.old ++ spec.small_plural count one.now more.now) }
-{
-    page.push_str("<small>")?;
-    push_plural(alloc, count, one, more, page)?;
-    page.push_str("</small>")
-}
-
-/// Adds how much of a whole a number is, as a small percentage.
-pub(crate) fn push_small_percent(
-    count: u64,
-    whole: u64,
-    page: &mut String,
-) -> Result<(), AllocError>
-    ensures { OnOk result (string_bytes page.new ≡ string_bytes page.old ++ spec.small_percent count whole) }
-{
-    page.push_str("<small>")?;
-    push_percent_of(count, whole, page)?;
-    page.push_str("</small>")
-}
-
-/// Adds a digest, for which the style sheet has a class.
-pub(crate) fn push_digest(text: &str, page: &mut String) -> Result<(), AllocError>
-    ensures { OnOk result (string_bytes page.new ≡ string_bytes page.old ++ spec.digest text.now) }
-{
-    page.push_str("<code class=\"sha\">")?;
+    page.push_str("<code>")?;
     push_escaped(text, page)?;
     page.push_str("</code>")
 }
 
-/// Adds a line of a file, with its tabs.
-pub(crate) fn push_line(line: &str, page: &mut String) -> Result<(), AllocError>
-    ensures { OnOk result (string_bytes page.new ≡ string_bytes page.old ++ spec.code_line line.now) }
+/// Adds texts in `code`, with commas between them.
+pub fn push_code_list(texts: &[Text], page: &mut String) -> Result<(), AllocError>
+    ensures { OnOk result (string_bytes page.new ≡ string_bytes page.old ++ spec.code_list texts.now) }
 {
-    page.push_str("<code>")?;
-    push_escaped_line(line, page)?;
-    page.push_str("</code>")
-}
-
-/// Adds at most so many texts, and how many more there are.
-pub(crate) fn push_some_codes(
-    alloc: Global,
-    most: usize,
-    texts: &[Text],
-    page: &mut String,
-) -> Result<(), AllocError>
-    ensures { OnOk result (string_bytes page.new ≡ string_bytes page.old ++ spec.some_codes most texts.now) }
-{
-    if texts.len() <= most {
-        push_code_list(texts, page)
-    } else {
-        let (some, others) = texts.split_at(most);
-        push_code_list(some, page)?;
-        push_and_more(alloc, others.len() as u64, page)
+    match texts {
+        [] => Ok(()),
+        [first, others @ ..] => {
+            push_code(first.as_str(), page)?;
+            push_later(others, page)
+        }
     }
 }
 
-/// Adds a link to a line of the text of a file system, with the name of the file system.
-pub(crate) fn push_system_line(
-    fs: FsId,
-    name: &str,
-    line: u32,
-    page: &mut String,
-) -> Result<(), AllocError>
-    ensures { OnOk result (string_bytes page.new ≡ string_bytes page.old ++ spec.system_line fs.0 name.now line) }
+/// Adds the texts behind the first.
+fn push_later(texts: &[Text], page: &mut String) -> Result<(), AllocError>
+    ensures { OnOk result (string_bytes page.new ≡ string_bytes page.old ++ flat_map (λ text. codes ", " ++ spec.code text) texts.now) }
 {
-    push_link_start(fs.0, line, page)?;
+    for text in texts {
+        page.push_str(", ")?;
+        push_code(text.as_str(), page)?;
+    }
+    Ok(())
+}
+
+/// Adds words that stand for nothing.
+pub fn push_zero(words: &str, page: &mut String) -> Result<(), AllocError>
+    ensures { OnOk result (string_bytes page.new ≡ string_bytes page.old ++ spec.zero words.now) }
+{
+    write!(page, "<span class=\"zero\">{words}</span>")
+}
+
+/// Adds a link to a line of the text of a file system.
+pub fn push_line_link(fs: FsId, line: u32, page: &mut String) -> Result<(), AllocError>
+    ensures { OnOk result (string_bytes page.new ≡ string_bytes page.old ++ spec.line_link fs.0 line) }
+{
+    let number = fs.0;
+    write!(
+        page,
+        "<a class=\"l\" href=\"#f{number}-{line}\">line {line}</a>"
+    )
+}
+
+/// Adds a link to a file system, given its name.
+pub fn push_system_link(fs: FsId, name: &str, page: &mut String) -> Result<(), AllocError>
+    ensures { OnOk result (string_bytes page.new ≡ string_bytes page.old ++ spec.system_link fs.0 name.now) }
+{
+    let number = fs.0;
+    write!(page, "<a href=\"#f{number}\">")?;
     push_code(name, page)?;
-    push_link_end(line, page)
+    page.push_str("</a>")
 }
 
-/// Begins the link.
-fn push_link_start(fs: u32, line: u32, page: &mut String) -> Result<(), AllocError>
-    ensures { OnOk result (string_bytes page.new ≡ string_bytes page.old ++ spec.link_start fs line) }
+/// Begins a box in which a wide table can be scrolled, and which is called by words without markup and a name.
+pub fn push_box_start(words: &str, name: &str, page: &mut String) -> Result<(), AllocError>
+    ensures { OnOk result (string_bytes page.new ≡ string_bytes page.old ++ spec.box_start words.now name.now) }
 {
-    write!(page, "<a href=\"#f{fs}-{line}\">")
-}
-
-/// Ends it.
-fn push_link_end(line: u32, page: &mut String) -> Result<(), AllocError>
-    ensures { OnOk result (string_bytes page.new ≡ string_bytes page.old ++ spec.link_end line) }
-{
-    write!(page, " line&nbsp;{line}</a>")
+    write!(
+        page,
+        "<div class=\"wide\" tabindex=\"0\" role=\"region\" aria-label=\"{words}"
+    )?;
+    push_attribute(name, page)?;
+    page.push_str("\">")
 }

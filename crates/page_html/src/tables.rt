@@ -6,8 +6,8 @@ ghost use Rattle.page_html.specs.Parts.{items_of};
 ghost use Rattle.page_html.specs.Tables as spec;
 ghost use Rattle.page_html.specs.Titles.{titles_of};
 
+use crate::part_pieces::push_within;
 use crate::parts::{Part, push_parts};
-use crate::pieces::push_within;
 use crate::titles::{Title, push_captions, push_labels};
 use desk_tables::FsId;
 use std::alloc::{AllocError, Global};

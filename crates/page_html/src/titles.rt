@@ -4,8 +4,9 @@ ghost use Rattle.std.specs.Prelude.{◌≡◌, ◌++◌, OnOk};
 ghost use Rattle.std.specs.String.{string_bytes};
 ghost use Rattle.page_html.specs.Titles as spec;
 
-use crate::amounts::push_more;
-use desk_page::{push_attribute, push_code};
+use crate::escaping::push_attribute;
+use crate::part_amounts::push_more;
+use crate::pieces::push_code;
 use std::alloc::{AllocError, Global};
 
 /// A part of a title.

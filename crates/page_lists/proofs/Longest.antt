@@ -5,7 +5,7 @@ use Rattle.std.specs.List.{flat_map, range_with_len}
 use Rattle.std.specs.List.Sorted.{IsStrictlyIncreasing}
 use Rattle.std.proofs.lemmas.Bool.{cases_order, eqb-false, eqb-true}
 use Rattle.std.proofs.lemmas.List.{append_assoc}
-use Rattle.desk_page.specs.Ranges.{Ends}
+use Rattle.page_html.specs.Ranges.{Ends}
 use Rattle.page_lists.proofs.Counting.{behind}
 use Rattle.page_lists.specs.Ranges.{AreApart, AreLongestRanges, addresses_in, ranges_from, ranges_of}
 

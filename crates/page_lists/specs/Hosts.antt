@@ -7,7 +7,7 @@ use Rattle.desk_text.specs.Address.{is_dotted}
 use Rattle.desk_text.specs.Bytes.{is_ipv6}
 use Rattle.desk_netgroup.specs.GroupLine.{group_named}
 use Rattle.desk_netgroup.specs.declared.group_line.GroupLine.{GroupLine}
-use Rattle.desk_page.specs.Ranges.{ends_of}
+use Rattle.page_html.specs.Ranges.{ends_of}
 use Rattle.desk_policy.specs.Policy.{Content}
 use Rattle.desk_policy.specs.declared.parsing.SiteTables.{SiteTables}
 use Rattle.page_html.specs.Blocks.{tag_html}

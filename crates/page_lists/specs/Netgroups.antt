@@ -5,7 +5,7 @@ use Rattle.desk_netgroup.specs.Walk.{hosts_in_order}
 use Rattle.desk_netgroup.specs.declared.group_line.GroupLine.{GroupLine}
 use Rattle.desk_netgroup.specs.declared.group_line.Member.{Member}
 use Rattle.desk_netgroup.specs.declared.group_line.Member.TheVariants.{Group, Host}
-use Rattle.desk_page.specs.Ranges.{ends_of}
+use Rattle.page_html.specs.Ranges.{ends_of}
 use Rattle.desk_policy.specs.Policy.{Content}
 use Rattle.desk_policy.specs.declared.parsing.SiteTables.{SiteTables}
 use Rattle.page_html.specs.Blocks.{element_html, tag_html}

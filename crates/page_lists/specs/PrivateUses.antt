@@ -1,6 +1,6 @@
 -- What the private contracts of uses cite.
 use Rattle.std.specs.Prelude.{map}
-use Rattle.desk_page.specs.Ranges.{ends_of}
+use Rattle.page_html.specs.Ranges.{ends_of}
 use Rattle.page_lists.specs.Uses.{NameValue, mention_value}
 use Rattle.page_lists.specs.declared.uses.NameFacts.{NameFacts}
 

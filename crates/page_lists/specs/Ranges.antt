@@ -2,7 +2,7 @@
 use Rattle.std.specs.Prelude.{◌≡◌, ℕ, ◌+◌, ◌-◌, ◌==◌, ◌<◌, ◌≤◌, List, [], ◌∷◌, if◌then◌else◌}
 use Rattle.std.specs.List.{flat_map, range_with_len}
 use Rattle.std.specs.List.Sorted.{IsStrictlyIncreasing}
-use Rattle.desk_page.specs.Ranges.{Ends}
+use Rattle.page_html.specs.Ranges.{Ends}
 
 -- Ranges of ascending addresses, of which the first range, so far, is this one. An address that follows its last one belongs to it.
 abbrev pub ranges_from : ℕ → ℕ → List ℕ → List Ends

@@ -3,8 +3,8 @@ use Rattle.std.specs.Prelude.{ℕ, ◌==◌, List, [], ◌∷◌, Option, Some, 
 use Rattle.std.specs.Option.{option_map}
 use Rattle.desk_text.specs.Path.{path_text}
 use Rattle.desk_tables.specs.declared.filesystems.Mount.{Mount}
-use Rattle.desk_page.specs.Ranges.{Ends}
-use Rattle.desk_page.specs.declared.ranges.Span.{Span}
+use Rattle.page_html.specs.Ranges.{Ends}
+use Rattle.page_html.specs.declared.ranges.Span.{Span}
 use Rattle.desk_policy.specs.Names.{addresses_of_names}
 use Rattle.desk_policy.specs.Policy.{Content}
 use Rattle.desk_policy.specs.declared.parsing.SiteTables.{SiteTables}

@@ -13,10 +13,9 @@ use crate::name_index::WrittenName;
 use crate::tables::{five_cells, push_long_end, push_long_start};
 use crate::uses::{MOST_USES, NameFacts, facts_of, stands_for};
 use desk_netgroup::Netgroups;
-use desk_page::Span;
 use desk_policy::{Policy, SiteTables};
 use desk_text::{is_dotted, is_ipv6};
-use page_html::{Column, Frame, Part, Tag, Title, push_row, push_table_start, push_tag};
+use page_html::{Column, Frame, Part, Span, Tag, Title, push_row, push_table_start, push_tag};
 use std::alloc::{AllocError, Global};
 
 /// More rows than these are folded.

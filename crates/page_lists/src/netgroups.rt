@@ -13,10 +13,10 @@ use crate::name_index::WrittenName;
 use crate::tables::{number_of, push_long_end, push_long_start, seven_cells};
 use crate::uses::{MOST_USES, NameFacts, facts_of, stands_for};
 use desk_netgroup::{GroupLine, Member, Netgroups};
-use desk_page::Span;
 use desk_policy::{Policy, SiteTables};
 use page_html::{
-    Column, Element, Frame, Part, Tag, Title, push_element, push_row, push_table_start, push_tag,
+    Column, Element, Frame, Part, Span, Tag, Title, push_element, push_row, push_table_start,
+    push_tag,
 };
 use std::alloc::{AllocError, Global};
 

@@ -2,11 +2,11 @@
 
 ghost use Rattle.std.specs.Prelude.{◌≡◌, ◌+◌, ◌==◌, IfOk, map};
 ghost use Rattle.desk_text.specs.Address.{number_of};
-ghost use Rattle.desk_page.specs.Ranges.{ends_of};
+ghost use Rattle.page_html.specs.Ranges.{ends_of};
 ghost use Rattle.page_lists.specs.Ranges as spec;
 
-use desk_page::Span;
 use desk_text::Addr;
+use page_html::Span;
 use std::alloc::{AllocError, Global};
 
 /// Puts addresses, which ascend, into ranges.

@@ -11,10 +11,9 @@ ghost use Rattle.page_lists.specs.NameIndex.{AreByName, IsIndexOf, is_of_name, s
 use crate::mentions::Mention;
 use crate::name_index::{WrittenName, lines_with};
 use crate::ranges::ranges_of;
-use desk_page::Span;
 use desk_policy::{Policy, SiteTables, addresses_of};
 use desk_tables::{FileSystems, FsId};
-use page_html::Part;
+use page_html::{Part, Span};
 use std::alloc::{AllocError, Global};
 
 /// How many lines that write a name a cell names.

@@ -4,8 +4,8 @@ use Rattle.std.proofs.lemmas.Bool.{cases_lt}
 use Rattle.std.proofs.lemmas.List.{get_or_append_left, get_or_push}
 use Rattle.desk_text.specs.Network.{Block, last_of}
 use Rattle.desk_who.specs.Runs.{AreRuns}
-use Rattle.desk_report.specs.Classes.{class_run}
-use Rattle.desk_report.specs.declared.class.Class.{Class}
+use Rattle.page_data.specs.Classes.{class_run}
+use Rattle.page_data.specs.declared.class.Class.{Class}
 use Rattle.page_maps.specs.Cells.{AreCells, AreLeastAndMost, cell_first, cell_last}
 use Rattle.page_maps.specs.PrivateCells.{AreMet, TellClasses}
 use Rattle.page_maps.specs.declared.cells.Cell.{Cell}

@@ -6,9 +6,9 @@ use Rattle.std.proofs.Math.Nat.{add-mul, lt_of_mul-lt-mul_right, mul-le-mul_righ
 use Rattle.std.proofs.lemmas.Bool.{cases_eq, cases_lt}
 use Rattle.std.proofs.lemmas.Nat.{pow-add, pow_pos}
 use Rattle.desk_text.specs.Network.{Block, block_of}
-use Rattle.desk_report.specs.Class.{rank_of}
-use Rattle.desk_report.specs.declared.class.Class.{Class}
-use Rattle.desk_report.specs.declared.class.Class.TheVariants.{Denied, ReadOnly, ReadWrite, RootKept}
+use Rattle.page_data.specs.Class.{rank_of}
+use Rattle.page_data.specs.declared.class.Class.{Class}
+use Rattle.page_data.specs.declared.class.Class.TheVariants.{Denied, ReadOnly, ReadWrite, RootKept}
 use Rattle.page_maps.specs.Cells.{cell_first, cell_last, cell_size}
 use Rattle.page_maps.specs.Laws.{HaveSameCells, MapsAreExactTogether}
 use Rattle.page_maps.specs.Maps.{AreMaps, IsSeam, map_at, map_prefix}

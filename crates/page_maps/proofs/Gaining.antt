@@ -4,7 +4,7 @@ use Rattle.std.proofs.lemmas.List.{append-nil, flat_map_more, map-append, take_m
 use Rattle.std.proofs.lemmas.List.Elements.{All-append, All-cons, All-nil}
 use Rattle.desk_text.specs.Network.{Block}
 use Rattle.desk_who.specs.Runs.{Run}
-use Rattle.desk_report.specs.declared.class.Class.{Class}
+use Rattle.page_data.specs.declared.class.Class.{Class}
 use Rattle.page_maps.specs.DrawnMaps.{IsDrawnFrom}
 use Rattle.page_maps.specs.PrivateFigures.{GainsEach}
 use Rattle.page_maps.specs.declared.drawn_maps.DrawnMap.{DrawnMap}

@@ -20,3 +20,5 @@ mod Spans
 mod Summed
 mod Told
 mod Unique
+pub mod Counting
+pub mod Alike

@@ -5,7 +5,7 @@ use Rattle.std.specs.List.Sorted.{IsNonDecreasingBy, IsPartitionPoint, IsPartiti
 use Rattle.std.proofs.lemmas.Bool.{cases_lt, le-leb, leb-false, leb-true, lt-ltb, ltb-false, ltb-true}
 use Rattle.std.proofs.lemmas.List.{get_or-drop, get_or-take, length-drop, length-take}
 use Rattle.desk_text.specs.Address.{number_of}
-use Rattle.desk_report.specs.declared.class.Class.{Class}
+use Rattle.page_data.specs.declared.class.Class.{Class}
 use Rattle.page_maps.specs.PrivateCells.{AreMet, TellClasses}
 use Rattle.page_maps.proofs.Telling.{Kept}
 

@@ -6,8 +6,8 @@ use Rattle.std.proofs.lemmas.Bool.{and_parts, cases_lt, leb-true, or_cases, true
 use Rattle.desk_text.specs.Address.{number_of}
 use Rattle.desk_text.specs.Network.{Block}
 use Rattle.desk_who.specs.Runs.{AreApart, AreRuns, Ascend, HasValue, Run, holds}
-use Rattle.desk_report.specs.Classes.{class_run}
-use Rattle.desk_report.specs.declared.class.Class.{Class}
+use Rattle.page_data.specs.Classes.{class_run}
+use Rattle.page_data.specs.declared.class.Class.{Class}
 use Rattle.page_maps.specs.Maps.{AreMaps, IsNeeded, IsSeam, map_at}
 use Rattle.page_maps.specs.Order.{AreOrdered}
 use Rattle.page_maps.proofs.Containing.{here_or_there}

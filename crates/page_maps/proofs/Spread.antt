@@ -3,9 +3,9 @@ use Rattle.std.proofs.Common.{◌≡◌, ◌⊎◌, ℕ, ◌≤◌, ◌∙◌, L
 use Rattle.std.specs.Prelude.{Contains, fold, nat_lt}
 use Rattle.std.proofs.lemmas.Bool.{cases_cond, cond_both, ltb-false, ltb-true}
 use Rattle.desk_text.specs.Address.{number_of}
-use Rattle.desk_report.specs.Class.{most_of, rank_of}
-use Rattle.desk_report.specs.declared.class.Class.{Class}
-use Rattle.desk_report.specs.declared.class.Class.TheVariants.{Denied, ReadOnly, ReadWrite, RootKept}
+use Rattle.page_data.specs.Class.{most_of, rank_of}
+use Rattle.page_data.specs.declared.class.Class.{Class}
+use Rattle.page_data.specs.declared.class.Class.TheVariants.{Denied, ReadOnly, ReadWrite, RootKept}
 use Rattle.page_maps.specs.Cells.{AreLeastAndMost, HasClass}
 use Rattle.page_maps.specs.PrivateCells.{AreMet, least_of, spread_of, with_run}
 use Rattle.page_maps.specs.declared.cells.Cell.{Cell}

@@ -8,8 +8,8 @@ use Rattle.std.proofs.lemmas.List.Elements.{All-from_recursion}
 use Rattle.desk_text.specs.Address.{number_of}
 use Rattle.desk_who.specs.Runs.{AreRuns, Ascend, HasValue, Run, holds}
 use Rattle.desk_who.specs.declared.runs.Run.{Run as KeptRun}
-use Rattle.desk_report.specs.Classes.{class_run}
-use Rattle.desk_report.specs.declared.class.Class.{Class}
+use Rattle.page_data.specs.Classes.{class_run}
+use Rattle.page_data.specs.declared.class.Class.{Class}
 use Rattle.page_maps.specs.PrivateCells.{IsHeld, TellClasses}
 use Rattle.page_maps.proofs.Containing.{here, there}
 

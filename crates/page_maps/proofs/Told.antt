@@ -8,7 +8,7 @@ use Rattle.std.proofs.lemmas.List.Folds.{Any-from_list_any}
 use Rattle.std.proofs.lemmas.List.Sums.{sum_by-cons}
 use Rattle.desk_text.specs.Network.{Block, block_of}
 use Rattle.desk_who.specs.Runs.{AreRuns, Run}
-use Rattle.desk_report.specs.declared.class.Class.{Class}
+use Rattle.page_data.specs.declared.class.Class.{Class}
 use Rattle.page_maps.specs.Maps.{AreMaps, IsNeeded, all_addresses, fixed_maps, is_listed, map_at, maps_with_fixed, same_network}
 use Rattle.page_maps.proofs.Mapped.{all_filter, contains_filter}
 use Rattle.page_maps.specs.Figures.{GainsFileSystemMaps, GainsGroupMaps, GainsMaps, count_of, most_of_file_system, most_of_group}

@@ -6,12 +6,12 @@ use Rattle.std.proofs.lemmas.List.{ext_get_or}
 use Rattle.std.proofs.lemmas.List.Elements.{All-head, All-tail}
 use Rattle.desk_text.specs.Network.{Block, last_of}
 use Rattle.desk_who.specs.Runs.{AreRuns, Run}
-use Rattle.desk_report.specs.Class.{rank_of}
-use Rattle.desk_report.specs.Counts.{AreCounts}
-use Rattle.desk_report.specs.declared.class.Class.{Class}
-use Rattle.desk_report.specs.declared.class.Class.TheVariants.{Denied}
-use Rattle.desk_report.specs.declared.counts.Counts.{Counts}
-use Rattle.desk_report.proofs.Agreeing.{same_rank}
+use Rattle.page_data.specs.Class.{rank_of}
+use Rattle.page_data.specs.Counts.{AreCounts}
+use Rattle.page_data.specs.declared.class.Class.{Class}
+use Rattle.page_data.specs.declared.class.Class.TheVariants.{Denied}
+use Rattle.page_data.specs.declared.counts.Counts.{Counts}
+use Rattle.page_data.proofs.Agreeing.{same_rank}
 use Rattle.page_maps.specs.Cells.{AreCells, AreLeastAndMost}
 use Rattle.page_maps.specs.Maps.{AreMaps, fixed_maps, maps_with_fixed}
 use Rattle.page_maps.specs.Order.{ComesBefore}

@@ -3,8 +3,8 @@
 use Rattle.std.specs.Prelude.{◌≡◌, ℕ, ◌+◌, ◌-◌, ◌*◌, ◌^◌, ◌<◌, ◌≤◌, List, length, slice_index_or}
 use Rattle.desk_text.specs.Network.{Block}
 use Rattle.desk_who.specs.Runs.{AreRuns, Run}
-use Rattle.desk_report.specs.Class.{rank_of}
-use Rattle.desk_report.specs.declared.class.Class.{Class}
+use Rattle.page_data.specs.Class.{rank_of}
+use Rattle.page_data.specs.declared.class.Class.{Class}
 use Rattle.page_maps.specs.declared.cells.Cell.{Cell}
 
 -- how many addresses each cell has of a network of this prefix, which is at most 24: a 256th of all

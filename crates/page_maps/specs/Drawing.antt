@@ -2,12 +2,12 @@
 use Rattle.std.specs.Prelude.{ℕ, ◌==◌, ◌&&◌, Bool, not, List, [], ◌++◌, codes, map, if◌then◌else◌}
 use Rattle.std.specs.List.{list_any}
 use Rattle.desk_text.specs.Network.{Block, block_size}
-use Rattle.desk_report.specs.Class.{same_class}
-use Rattle.desk_report.specs.declared.class.Class.{Class}
-use Rattle.desk_report.specs.declared.class.Class.TheVariants.{Denied, ReadOnly, ReadWrite, RootKept}
+use Rattle.page_data.specs.Class.{same_class}
+use Rattle.page_data.specs.declared.class.Class.{Class}
+use Rattle.page_data.specs.declared.class.Class.TheVariants.{Denied, ReadOnly, ReadWrite, RootKept}
 use Rattle.page_maps.specs.declared.cells.Cell.{Cell}
-use Rattle.desk_page.specs.Numbers.{number}
-use Rattle.desk_page.specs.Ranges.{network_text}
+use Rattle.page_html.specs.Numbers.{number}
+use Rattle.page_html.specs.Ranges.{network_text}
 use Rattle.page_findings.specs.Badges.{count_words}
 use Rattle.page_maps.specs.Paths.{ground_path, mark_path}
 use Rattle.page_maps.specs.declared.drawn_maps.DrawnMap.{DrawnMap}

@@ -2,8 +2,8 @@
 use Rattle.std.specs.Prelude.{◌≡◌, ◌≤◌, All, List, length, map}
 use Rattle.desk_text.specs.Network.{Block, block_size, last_of}
 use Rattle.desk_who.specs.Runs.{Run}
-use Rattle.desk_report.specs.Counts.{AreCountsFrom, granted_of}
-use Rattle.desk_report.specs.declared.class.Class.{Class}
+use Rattle.page_data.specs.Counts.{AreCountsFrom, granted_of}
+use Rattle.page_data.specs.declared.class.Class.{Class}
 use Rattle.page_maps.specs.Cells.{AreCellsFrom}
 use Rattle.page_maps.specs.Maps.{IsWide}
 use Rattle.page_maps.specs.declared.drawn_maps.DrawnMap.{DrawnMap}

@@ -4,11 +4,11 @@ use Rattle.std.specs.Fmt.{decimal}
 use Rattle.std.specs.List.{flat_map, join_by}
 use Rattle.desk_text.specs.Network.{Block, block_size}
 use Rattle.desk_who.specs.Runs.{Run}
-use Rattle.desk_report.specs.Counts.{granted_of}
-use Rattle.desk_report.specs.declared.class.Class.{Class}
+use Rattle.page_data.specs.Counts.{granted_of}
+use Rattle.page_data.specs.declared.class.Class.{Class}
 use Rattle.page_maps.specs.Maps.{AreMapsFrom, fixed_maps, maps_with_fixed}
-use Rattle.desk_page.specs.Amounts.{part, plural}
-use Rattle.desk_page.specs.Ranges.{network_text}
+use Rattle.page_html.specs.Amounts.{part, plural}
+use Rattle.page_html.specs.Ranges.{network_text}
 use Rattle.page_maps.specs.Drawing.{large_map, small_map}
 use Rattle.page_maps.specs.DrawnMaps.{AreDrawnFrom}
 use Rattle.page_maps.specs.declared.drawn_maps.DrawnMap.{DrawnMap}

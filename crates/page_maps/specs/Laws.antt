@@ -2,8 +2,8 @@
 use Rattle.std.specs.Prelude.{◌≡◌, ◌⊎◌, ◌↔◌, ℕ, ◌+◌, ◌-◌, ◌/◌, ◌%◌, ◌^◌, ◌<◌, ◌≤◌, ◌++◌, true, All, Contains, List, length, map}
 use Rattle.desk_text.specs.Network.{Block, IsBlock, covers, last_of}
 use Rattle.desk_who.specs.Runs.{AreRuns, Run}
-use Rattle.desk_report.specs.Values.{AreRunsOfSome}
-use Rattle.desk_report.specs.declared.class.Class.{Class}
+use Rattle.page_data.specs.Values.{AreRunsOfSome}
+use Rattle.page_data.specs.declared.class.Class.{Class}
 use Rattle.page_maps.specs.Cells.{AreCells, cell_first, cell_last, cell_size}
 use Rattle.page_maps.specs.DrawnMaps.{IsDrawnFrom}
 use Rattle.page_maps.specs.Figures.{GainsFileSystemMaps, GainsGroupMaps, GainsOverviewMaps, count_of, figures}

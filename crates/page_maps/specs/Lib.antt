@@ -12,3 +12,7 @@ pub mod Figures
 pub mod PrivateFigures
 pub mod Shapes
 pub mod Laws
+pub mod NetworkRows
+pub mod NetworkCells
+pub mod NetworkTable
+pub mod NetworkLaws

@@ -3,7 +3,7 @@ use Rattle.std.specs.Prelude.{◌≡◌, ◌≢◌, ◌⊎◌, ℕ, ◌-◌, ◌
 use Rattle.std.specs.List.{AllPairs, list_any}
 use Rattle.desk_text.specs.Network.{Block, block_of}
 use Rattle.desk_who.specs.Runs.{AreRuns, Run}
-use Rattle.desk_report.specs.declared.class.Class.{Class}
+use Rattle.page_data.specs.declared.class.Class.{Class}
 use Rattle.page_maps.specs.Order.{ComesBefore}
 
 -- a seam: an address of another class than the address before it

@@ -4,10 +4,10 @@ use Rattle.std.specs.List.Sorted.{IsNonDecreasingBy}
 use Rattle.desk_text.specs.Address.{number_of}
 use Rattle.desk_who.specs.Runs.{HasValue}
 use Rattle.desk_who.specs.declared.runs.Run.{Run as KeptRun}
-use Rattle.desk_report.specs.Class.{most_of, rank_of}
-use Rattle.desk_report.specs.Classes.{class_run}
-use Rattle.desk_report.specs.declared.class.Class.{Class}
-use Rattle.desk_report.specs.declared.class.Class.TheVariants.{Denied, RootKept}
+use Rattle.page_data.specs.Class.{most_of, rank_of}
+use Rattle.page_data.specs.Classes.{class_run}
+use Rattle.page_data.specs.declared.class.Class.{Class}
+use Rattle.page_data.specs.declared.class.Class.TheVariants.{Denied, RootKept}
 use Rattle.page_maps.specs.declared.cells.Cell.{Cell}
 
 -- one of the runs holds the address

@@ -3,14 +3,14 @@
 ghost use Rattle.std.specs.Prelude.{◌≡◌, ℕ, ◌<◌, ◌≤◌, ◌^◌, IfOk, map};
 ghost use Rattle.desk_text.specs.Address.{number_of};
 ghost use Rattle.desk_text.specs.Network.{last_of};
-ghost use Rattle.desk_report.specs.Classes.{class_run};
-ghost use Rattle.desk_report.specs.declared.class.Class.{Class};
+ghost use Rattle.page_data.specs.Classes.{class_run};
+ghost use Rattle.page_data.specs.declared.class.Class.{Class};
 ghost use Rattle.page_maps.specs.Cells.{AreCellsFrom, AreLeastAndMost, cell_size};
 ghost use Rattle.page_maps.specs.PrivateCells.{AreMet, TellClasses, least_of, spread_of, with_run};
 
-use desk_report::Class;
 use desk_text::{Addr, Net};
 use desk_who::Run;
+use page_data::Class;
 use std::alloc::{AllocError, Global};
 
 /// How many cells a map has.

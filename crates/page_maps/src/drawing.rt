@@ -4,16 +4,16 @@ ghost use Rattle.std.specs.Prelude.{◌≡◌, ◌++◌, ◌≤◌, IfOk, OnOk, 
 ghost use Rattle.std.specs.List.{list_any};
 ghost use Rattle.std.specs.String.{string_bytes};
 ghost use Rattle.desk_text.specs.Network.{block_size};
-ghost use Rattle.desk_report.specs.Class.{same_class};
+ghost use Rattle.page_data.specs.Class.{same_class};
 ghost use Rattle.page_maps.specs.Drawing as spec;
 
 use crate::cells::Cell;
 use crate::drawn_maps::DrawnMap;
 use crate::paths::{Shape, push_ground_path, push_mark_path};
-use desk_page::{push_network, push_number};
-use desk_report::Class;
 use desk_text::Net;
+use page_data::Class;
 use page_findings::push_count_words;
+use page_html::{push_network, push_number};
 use std::alloc::{AllocError, Global};
 
 /// Adds a map with the numbers of its rows, and a grid.

@@ -1,15 +1,15 @@
 //! What is drawn of a network.
 
 ghost use Rattle.std.specs.Prelude.{◌≡◌, IfOk, map};
-ghost use Rattle.desk_report.specs.Classes.{class_run};
-ghost use Rattle.desk_report.specs.Values.{AreRunsOfSome};
+ghost use Rattle.page_data.specs.Classes.{class_run};
+ghost use Rattle.page_data.specs.Values.{AreRunsOfSome};
 ghost use Rattle.page_maps.specs.Maps.{IsWide};
 ghost use Rattle.page_maps.specs.DrawnMaps.{IsDrawable, IsDrawnFrom};
 
 use crate::cells::{Cell, cells_of};
-use desk_report::{Class, Counts, counts_add_up, counts_within};
 use desk_text::{Net, Sequence};
 use desk_who::Run;
+use page_data::{Class, Counts, counts_add_up, counts_within};
 use std::alloc::{AllocError, Global};
 
 /// The map of a network: its cells, and how many of its addresses are of which class.

@@ -3,8 +3,8 @@
 ghost use Rattle.std.specs.Prelude.{◌≡◌, ◌++◌, ◌≤◌, ◌^◌, All, IfOk, OnOk, codes, map};
 ghost use Rattle.std.specs.List.{flat_map};
 ghost use Rattle.std.specs.String.{string_bytes};
-ghost use Rattle.desk_report.specs.Classes.{class_run};
-ghost use Rattle.desk_report.specs.Values.{AreRunsOfSome};
+ghost use Rattle.page_data.specs.Classes.{class_run};
+ghost use Rattle.page_data.specs.Values.{AreRunsOfSome};
 ghost use Rattle.page_maps.specs.Maps.{IsWide};
 ghost use Rattle.page_maps.specs.DrawnMaps.{IsDrawable};
 ghost use Rattle.page_maps.specs.Figures as spec;
@@ -13,10 +13,10 @@ ghost use Rattle.page_maps.specs.PrivateFigures.{GainsCells, GainsFigures};
 use crate::drawing::{push_large_map, push_small_map, size_of};
 use crate::drawn_maps::{DrawnMap, drawn_map};
 use crate::maps::{maps_of, with_fixed_maps};
-use desk_page::{push_network, push_part, push_plural};
-use desk_report::Class;
 use desk_text::Net;
 use desk_who::Run;
+use page_data::Class;
+use page_html::{push_network, push_portion, push_plural};
 use std::alloc::{AllocError, Global};
 
 /// How many maps a file system has at most, and how many a group of directories: `most_of_file_system` and `most_of_group`.
@@ -126,7 +126,7 @@ fn push_caption(alloc: Global, drawn: &DrawnMap, page: &mut String) -> Result<()
     page.push_str("<figcaption><b>")?;
     push_name(drawn.network, page)?;
     page.push_str("</b> ")?;
-    push_part(alloc, granted, size_of(drawn.network), page)?;
+    push_portion(alloc, granted, size_of(drawn.network), page)?;
     page.push_str(" may</figcaption>")?;
     Ok(())
 }

@@ -1,5 +1,5 @@
-//! The maps of a report: which maps of networks show where the most that clients may changes, the cells of each, and the
-//! maps as SVG.
+//! The maps of a report, and its table of networks: which maps of networks show where the most that clients may changes,
+//! the cells of each, the maps as SVG, and what the addresses of each network may mount, on which file systems.
 //!
 //! ```text
 //! let maps = maps_of(alloc, runs)?;                     // 0.0.0.0/0, 10.0.0.0/8, 10.20.0.0/16
@@ -8,6 +8,7 @@
 //!
 //! push_shapes(&mut page)?;                              // once
 //! push_file_system_maps(alloc, runs, &mut page)?;       // 0.0.0.0/0, 10.0.0.0/8, 172.16.0.0/12, 192.168.0.0/16, ..
+//! push_networks(alloc, policy, &systems, &mut page)?;
 //! ```
 #![tactic(auto)]
 
@@ -18,6 +19,10 @@ pub mod figures;
 pub mod laws;
 pub mod line_networks;
 pub mod maps;
+pub mod network_cells;
+pub mod network_laws;
+pub mod networks;
+pub mod network_table;
 mod order;
 mod paths;
 pub mod shapes;
@@ -31,4 +36,7 @@ pub use laws::{
 };
 pub use line_networks::{written_in_site, written_networks};
 pub use maps::{maps_of, with_fixed_maps};
+pub use network_laws::alike_means_all;
+pub use networks::{NetworkRow, SystemClass, SystemCounts, network_rows};
+pub use network_table::push_networks;
 pub use shapes::push_shapes;

@@ -3,14 +3,14 @@
 ghost use Rattle.std.specs.Prelude.{◌≡◌, ◌≤◌, All, IfOk, map};
 ghost use Rattle.desk_text.specs.Address.{number_of};
 ghost use Rattle.desk_text.specs.Network.{IsBlock, block_of};
-ghost use Rattle.desk_report.specs.Classes.{class_run};
+ghost use Rattle.page_data.specs.Classes.{class_run};
 ghost use Rattle.page_maps.specs.Maps as spec;
 ghost use Rattle.page_maps.specs.Maps.{AreMapsFrom, IsWide, is_listed, map_at, maps_with_fixed, same_network};
 
 use crate::order::ordered;
-use desk_report::Class;
 use desk_text::{Addr, Net, Prefix};
 use desk_who::Run;
+use page_data::Class;
 use std::alloc::{AllocError, Global};
 
 /// Lists the maps that are needed to show where the class changes: that of all addresses first, the wider ones before the narrower,

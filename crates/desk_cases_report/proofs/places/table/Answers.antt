@@ -1,6 +1,6 @@
 use Rattle.std.proofs.Common.{All, map, subst, sym}
-use Rattle.desk_report.specs.Groups.{group_value}
-use Rattle.desk_report.specs.Tables.{CanBeTabled}
+use Rattle.page_data.specs.Groups.{group_value}
+use Rattle.page_data.specs.Tables.{CanBeTabled}
 use Rattle.desk_cases_report.proofs.places.table.Goals as goal
 
 pub table_in-requires : goal.table_in-requires

@@ -1,7 +1,7 @@
 use Rattle.std.proofs.Common.{◌∙◌, ap, arith, subst, sym}
 use Rattle.std.proofs.lemmas.List.{get_or-map, length-map}
-use Rattle.desk_report.specs.Groups.{group_value}
-use Rattle.desk_report.specs.Tables.{CanBeTabled}
+use Rattle.page_data.specs.Groups.{group_value}
+use Rattle.page_data.specs.Tables.{CanBeTabled}
 use Rattle.desk_cases_report.proofs.places.table_in.Goals as goal
 
 pub say_table-requires : goal.say_table-requires

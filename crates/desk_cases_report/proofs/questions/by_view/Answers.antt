@@ -1,6 +1,6 @@
 use Rattle.std.proofs.Common.{refl, subst}
 use Rattle.desk_policy.specs.Site.{texts_of}
-use Rattle.desk_report.specs.Laws.{IsSoundIfRead}
+use Rattle.page_data.specs.Laws.{IsSoundIfRead}
 use Rattle.desk_cases_report.proofs.questions.by_view.Goals as goal
 
 pub of_view-asked-requires : goal.of_view-asked-requires

@@ -1,6 +1,6 @@
 use Rattle.std.proofs.Common.{refl, subst}
 use Rattle.desk_policy.specs.Site.{texts_of}
-use Rattle.desk_report.specs.Laws.{IsSoundIfRead}
+use Rattle.page_data.specs.Laws.{IsSoundIfRead}
 use Rattle.desk_cases_report.proofs.standing.by_index.Goals as goal
 
 pub of_index-asked-requires : goal.of_index-asked-requires

@@ -1,5 +1,5 @@
 use Rattle.std.proofs.Common.{◌≡◌, ◌<◌, ◌∙◌, List, ap, get_or, length, subst}
-use Rattle.desk_report.specs.declared.systems.FileSystemReport.{FileSystemReport}
+use Rattle.page_data.specs.declared.systems.FileSystemReport.{FileSystemReport}
 use Rattle.desk_cases_report.proofs.ToldOf.{found, listed}
 use Rattle.desk_cases_report.proofs.standing.of_site.Goals as goal
 

@@ -1,7 +1,7 @@
 use Rattle.std.proofs.Common.{◌≡◌, codes, refl, subst, sym}
 use lib.Utf8.{encode}
 use Rattle.std.specs.Str.{chars}
-use Rattle.desk_page.specs.Escaping.{attribute}
+use Rattle.page_html.specs.Escaping.{attribute}
 use Rattle.page_findings.specs.Badges.{level_mark}
 use Rattle.page_findings.proofs.badges.level_text.Goals as goal
 

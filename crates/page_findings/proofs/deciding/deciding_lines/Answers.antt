@@ -4,7 +4,7 @@ use Rattle.std.proofs.lemmas.List.{get_or-map, length-map, take_all}
 use Rattle.desk_policy.specs.Policy.{rows_of}
 use Rattle.desk_policy.specs.declared.row.Row.{Row}
 use Rattle.desk_impact.specs.Sections.{section_value}
-use Rattle.desk_report.specs.declared.lines.LineReasons.{LineReasons}
+use Rattle.page_data.specs.declared.lines.LineReasons.{LineReasons}
 use Rattle.page_findings.specs.Deciding.{IsDecidedFor, never_decides}
 use Rattle.page_findings.specs.declared.deciding.NeverDecides.{NeverDecides}
 use Rattle.page_findings.proofs.Ordered.{in_line_order}

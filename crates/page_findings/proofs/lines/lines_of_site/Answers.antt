@@ -1,8 +1,8 @@
 use Rattle.std.proofs.Common.{List, arith, map, subst, sym}
-use Rattle.desk_report.specs.Grants.{AreGrants}
-use Rattle.desk_report.specs.Lines.{AreLineReasons}
-use Rattle.desk_report.specs.declared.grants.LineGrants.{LineGrants}
-use Rattle.desk_report.specs.declared.lines.LineReasons.{LineReasons}
+use Rattle.page_data.specs.Grants.{AreGrants}
+use Rattle.page_data.specs.Lines.{AreLineReasons}
+use Rattle.page_data.specs.declared.grants.LineGrants.{LineGrants}
+use Rattle.page_data.specs.declared.lines.LineReasons.{LineReasons}
 use Rattle.page_findings.specs.Lines.{line_value}
 use Rattle.page_findings.proofs.Adding.{AreLinesOfFirst, all_first, as_many, first_more, first_none, grants_at, reasons_at}
 use Rattle.page_findings.proofs.lines.lines_of_site.Goals as goal

@@ -2,10 +2,10 @@ use Rattle.std.proofs.Common.{◌≡◌, ◌<◌, ◌≤◌, ◌∙◌, ℕ, Lis
 use Rattle.std.proofs.lemmas.List.{get_or-map, length-map, map-append, take_all}
 use Rattle.desk_policy.specs.Policy.{rows_of}
 use Rattle.desk_policy.specs.declared.row.Row.{Row}
-use Rattle.desk_report.specs.Grants.{GrantsTo, HoldsOf}
-use Rattle.desk_report.specs.Lines.{IsToldOf}
-use Rattle.desk_report.specs.declared.grants.LineGrants.{LineGrants}
-use Rattle.desk_report.specs.declared.lines.LineReasons.{LineReasons}
+use Rattle.page_data.specs.Grants.{GrantsTo, HoldsOf}
+use Rattle.page_data.specs.Lines.{IsToldOf}
+use Rattle.page_data.specs.declared.grants.LineGrants.{LineGrants}
+use Rattle.page_data.specs.declared.lines.LineReasons.{LineReasons}
 use Rattle.page_findings.specs.Lines.{line_value}
 use Rattle.page_findings.specs.PrivateLines.{AddsLines}
 use Rattle.page_findings.proofs.Adding.{adds_none, adds_one}

@@ -7,7 +7,7 @@ use Rattle.desk_text.specs.Laws.{IsSetOf}
 use Rattle.desk_text.specs.declared.address.Addr.{Addr}
 use Rattle.desk_impact.specs.Sections.{section_value}
 use Rattle.page_findings.specs.PrivateDeciding.{lines_between}
-use Rattle.desk_report.proofs.Gathered.{writes}
+use Rattle.page_data.proofs.Gathered.{writes}
 use Rattle.page_findings.proofs.lists.list_on.Goals as goal
 
 pub loop-address-preserved : goal.loop-address-preserved

@@ -4,7 +4,7 @@ use Rattle.std.proofs.lemmas.List.{append-nil, take_all}
 use Rattle.std.proofs.lemmas.List.Folds.{flat_map-map}
 use Rattle.desk_who.specs.Who.{range_value}
 use Rattle.page_findings.specs.PrivateDeciding.{named_in}
-use Rattle.desk_report.proofs.Gathered.{writes}
+use Rattle.page_data.proofs.Gathered.{writes}
 use Rattle.page_findings.proofs.naming.push_at.Goals as goal
 
 pub loop-range-init : goal.loop-range-init

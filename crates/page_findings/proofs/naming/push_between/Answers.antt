@@ -8,7 +8,7 @@ use Rattle.desk_who.specs.Who.{range_value}
 use Rattle.desk_who.specs.declared.runs.Run.{Run}
 use Rattle.desk_impact.specs.Sections.{PlaceBreaches, Section, section_value}
 use Rattle.page_findings.specs.PrivateDeciding.{AreInOrder, lines_at}
-use Rattle.desk_report.proofs.Gathered.{writes}
+use Rattle.page_data.proofs.Gathered.{writes}
 use Rattle.page_findings.proofs.Searched.{in_order}
 use Rattle.page_findings.proofs.naming.push_between.Goals as goal
 

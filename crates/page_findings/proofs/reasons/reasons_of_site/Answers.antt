@@ -1,8 +1,8 @@
 use Rattle.std.proofs.Common.{List, arith, subst, sym}
-use Rattle.desk_report.specs.Grants.{AreGrants}
-use Rattle.desk_report.specs.Lines.{AreLineReasons}
-use Rattle.desk_report.specs.Server.{AreServerFindings}
-use Rattle.desk_report.specs.declared.grants.LineGrants.{LineGrants}
+use Rattle.page_data.specs.Grants.{AreGrants}
+use Rattle.page_data.specs.Lines.{AreLineReasons}
+use Rattle.page_data.specs.Server.{AreServerFindings}
+use Rattle.page_data.specs.declared.grants.LineGrants.{LineGrants}
 use Rattle.page_findings.proofs.Adding.{as_many, grants_at}
 use Rattle.page_findings.proofs.Telling.{AreReasonsOfFirst, all_reasons, reasons_more, reasons_none}
 use Rattle.page_findings.proofs.reasons.reasons_of_site.Goals as goal

@@ -1,7 +1,7 @@
 use Rattle.std.proofs.Common.{codes, map}
 use Rattle.std.specs.String.{string_bytes}
 use Rattle.std.proofs.lemmas.Result.{on_ok_weaker}
-use Rattle.desk_page.proofs.Gaining.{pushed_last, three_pieces}
+use Rattle.page_html.proofs.Gaining.{pushed_last, three_pieces}
 use Rattle.page_html.specs.Blocks.{facts_start}
 use Rattle.page_html.specs.Parts.{items_of}
 use Rattle.page_html.specs.Tables.{cells_html, frame_of}

@@ -2,7 +2,7 @@ use Rattle.std.proofs.Common.{codes}
 use Rattle.std.specs.String.{string_bytes}
 use Rattle.std.proofs.lemmas.Result.{on_ok_weaker}
 use Rattle.page_html.specs.Head.{style}
-use Rattle.desk_page.proofs.Gaining.{pushed_last, three_pieces}
+use Rattle.page_html.proofs.Gaining.{pushed_last, three_pieces}
 use Rattle.page_html.proofs.head.push_sheet.Goals as goal
 
 pub returns : goal.returns

@@ -1,6 +1,6 @@
 use Rattle.std.specs.String.{string_bytes}
 use Rattle.std.proofs.lemmas.Result.{on_ok_weaker}
-use Rattle.desk_page.proofs.Gaining.{pushed_last, three_pieces}
+use Rattle.page_html.proofs.Gaining.{pushed_last, three_pieces}
 use Rattle.page_html.specs.Tables.{box_end, box_start}
 use Rattle.page_html.specs.Titles.{labels_html, titles_of}
 use Rattle.page_html.proofs.tables.push_box.Goals as goal

@@ -1,7 +1,7 @@
 use Rattle.std.proofs.Common.{◌++◌, ◌∙◌, ap}
 use Rattle.std.specs.String.{string_bytes}
 use Rattle.std.proofs.lemmas.Result.{on_ok_weaker}
-use Rattle.desk_page.proofs.Gaining.{pushed_last, three_pieces}
+use Rattle.page_html.proofs.Gaining.{pushed_last, three_pieces}
 use Rattle.page_html.specs.Tables.{caption_end, caption_start}
 use Rattle.page_html.specs.Titles.{captions_html, titles_of}
 use Rattle.page_html.proofs.tables.push_caption.Goals as goal

@@ -1,5 +1,5 @@
 use Rattle.std.specs.String.{string_bytes}
-use Rattle.desk_page.proofs.Gathered.{writes_values}
+use Rattle.page_html.proofs.Gathered.{writes_values}
 use Rattle.page_html.specs.Titles.{caption_html, title_of}
 use Rattle.page_html.proofs.titles.push_captions.Goals as goal
 

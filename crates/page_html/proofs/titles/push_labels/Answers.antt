@@ -1,5 +1,5 @@
 use Rattle.std.specs.String.{string_bytes}
-use Rattle.desk_page.proofs.Gathered.{writes_values}
+use Rattle.page_html.proofs.Gathered.{writes_values}
 use Rattle.page_html.specs.Titles.{label_html, title_of}
 use Rattle.page_html.proofs.titles.push_labels.Goals as goal
 

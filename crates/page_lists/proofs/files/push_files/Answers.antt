@@ -1,7 +1,7 @@
 use Rattle.std.proofs.Common.{[], ◌∷◌, codes, map}
 use Rattle.std.specs.Prelude.{length}
 use Rattle.std.specs.String.{string_bytes}
-use Rattle.desk_page.proofs.Gaining.{five_pieces}
+use Rattle.page_html.proofs.Gaining.{five_pieces}
 use Rattle.page_html.specs.Blocks.{tag_html}
 use Rattle.page_html.specs.Tables.{rows_html, table_start}
 use Rattle.page_html.specs.Titles.{Said}

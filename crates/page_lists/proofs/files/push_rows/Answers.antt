@@ -1,6 +1,6 @@
 use Rattle.std.proofs.Common.{◌++◌, ◌∙◌, ap}
 use Rattle.std.specs.String.{string_bytes}
-use Rattle.desk_page.proofs.Gathered.{writes_values}
+use Rattle.page_html.proofs.Gathered.{writes_values}
 use Rattle.page_html.specs.Tables.{row_html}
 use Rattle.page_lists.specs.Files.{cells, frame}
 use Rattle.page_lists.proofs.files.push_rows.Goals as goal

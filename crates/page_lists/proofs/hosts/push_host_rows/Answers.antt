@@ -1,5 +1,5 @@
 use Rattle.std.specs.String.{string_bytes}
-use Rattle.desk_page.proofs.Gathered.{writes_values}
+use Rattle.page_html.proofs.Gathered.{writes_values}
 use Rattle.page_html.specs.Tables.{row_html}
 use Rattle.page_lists.specs.Hosts.{host, host_frame}
 use Rattle.page_lists.proofs.hosts.push_host_rows.Goals as goal

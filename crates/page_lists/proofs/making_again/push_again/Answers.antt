@@ -1,5 +1,5 @@
 use Rattle.std.specs.String.{string_bytes}
-use Rattle.desk_page.proofs.Gaining.{three_pieces}
+use Rattle.page_html.proofs.Gaining.{three_pieces}
 use Rattle.page_lists.specs.MakingAgain.{commands, heading, same}
 use Rattle.page_lists.proofs.making_again.push_again.Goals as goal
 

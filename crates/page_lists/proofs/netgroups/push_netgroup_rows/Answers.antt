@@ -1,5 +1,5 @@
 use Rattle.std.specs.String.{string_bytes}
-use Rattle.desk_page.proofs.Gathered.{writes_values}
+use Rattle.page_html.proofs.Gathered.{writes_values}
 use Rattle.page_html.specs.Tables.{row_html}
 use Rattle.page_lists.specs.Netgroups.{netgroup, netgroup_frame}
 use Rattle.page_lists.proofs.netgroups.push_netgroup_rows.Goals as goal

@@ -1,7 +1,7 @@
 -- The ranges so far, and those of the addresses that are left, are all.
 use Rattle.std.proofs.Common.{◌≡◌, ◌++◌, drop, map}
 use Rattle.desk_text.specs.Address.{number_of}
-use Rattle.desk_page.specs.Ranges.{ends_of}
+use Rattle.page_html.specs.Ranges.{ends_of}
 use Rattle.page_lists.specs.Ranges as spec
 use Rattle.page_lists.proofs.ranges.ranges_from.Given as goal
 

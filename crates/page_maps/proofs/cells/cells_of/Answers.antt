@@ -2,7 +2,7 @@ use Rattle.std.proofs.Common.{◌≡◌, ℕ, ◌+◌, ◌*◌, ◌∙◌, ap, a
 use Rattle.std.proofs.lemmas.List.{length_push}
 use Rattle.desk_text.specs.Address.{number_of}
 use Rattle.desk_text.specs.Network.{last_of}
-use Rattle.desk_report.specs.declared.class.Class.{Class}
+use Rattle.page_data.specs.declared.class.Class.{Class}
 use Rattle.page_maps.specs.Cells.{cell_first, cell_last, cell_size}
 use Rattle.page_maps.specs.PrivateCells.{AreMet, TellClasses}
 use Rattle.page_maps.proofs.Celling.{SoFar, are_cells, one_more_cell}

@@ -2,7 +2,7 @@
 use Rattle.std.proofs.Common.{◌≡◌, ◌<◌, ◌≤◌, ℕ, length}
 use Rattle.std.specs.Prelude.{slice_index_or}
 use Rattle.desk_text.specs.Network.{last_of}
-use Rattle.desk_report.specs.declared.class.Class.{Class}
+use Rattle.page_data.specs.declared.class.Class.{Class}
 use Rattle.page_maps.specs.Cells.{AreLeastAndMost, cell_first, cell_last}
 use Rattle.page_maps.specs.PrivateCells.{TellClasses}
 use Rattle.page_maps.specs.declared.cells.Cell.{Cell}

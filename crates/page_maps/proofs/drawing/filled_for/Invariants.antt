@@ -1,6 +1,6 @@
 -- The cells so far are told.
 use Rattle.std.proofs.Common.{◌≡◌, map, take}
-use Rattle.desk_report.specs.Class.{same_class}
+use Rattle.page_data.specs.Class.{same_class}
 use Rattle.page_maps.proofs.drawing.filled_for.Given as goal
 
 abbrev pub invariant-loop-cell : goal.invariant-loop-cell

@@ -1,7 +1,7 @@
 -- The cells so far are told.
 use Rattle.std.proofs.Common.{◌≡◌, ◌&&◌, map, take}
 use Rattle.std.specs.Prelude.{not}
-use Rattle.desk_report.specs.Class.{same_class}
+use Rattle.page_data.specs.Class.{same_class}
 use Rattle.page_maps.proofs.drawing.marked_for.Given as goal
 
 abbrev pub invariant-loop-cell : goal.invariant-loop-cell

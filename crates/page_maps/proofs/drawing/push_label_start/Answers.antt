@@ -1,7 +1,7 @@
 use Rattle.std.proofs.Common.{◌++◌, ◌∙◌, ap, codes}
 use Rattle.std.specs.String.{string_bytes}
-use Rattle.desk_page.specs.Ranges.{network_text}
-use Rattle.desk_page.proofs.Gaining.{three_pieces}
+use Rattle.page_html.specs.Ranges.{network_text}
+use Rattle.page_html.proofs.Gaining.{three_pieces}
 use Rattle.page_maps.proofs.drawing.push_label_start.Goals as goal
 
 pub returns : goal.returns

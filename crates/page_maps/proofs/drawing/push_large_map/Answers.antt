@@ -1,7 +1,7 @@
 use Rattle.std.proofs.Common.{◌++◌, ◌∙◌, ap, codes}
 use Rattle.std.specs.String.{string_bytes}
 use Rattle.page_maps.specs.Drawing.{axis, label, map_paths}
-use Rattle.desk_page.proofs.Gaining.{five_pieces}
+use Rattle.page_html.proofs.Gaining.{five_pieces}
 use Rattle.page_maps.proofs.drawing.push_large_map.Goals as goal
 
 pub returns : goal.returns

@@ -1,8 +1,8 @@
 use Rattle.std.proofs.Common.{◌+◌, ◌-◌, ◌∙◌, List, ap, length, map, subst, sym}
 use Rattle.desk_text.specs.Address.{number_of}
 use Rattle.desk_text.specs.Network.{last_of}
-use Rattle.desk_report.specs.Classes.{class_run}
-use Rattle.desk_report.specs.Counts.{AreCountsFrom}
+use Rattle.page_data.specs.Classes.{class_run}
+use Rattle.page_data.specs.Counts.{AreCountsFrom}
 use Rattle.page_maps.specs.Cells.{AreCellsFrom}
 use Rattle.page_maps.specs.declared.cells.Cell.{Cell}
 use Rattle.page_maps.proofs.Sized.{part_of_network}

@@ -2,7 +2,7 @@ use Rattle.std.proofs.Common.{◌∙◌, List, map, subst}
 use Rattle.std.specs.String.{string_bytes}
 use Rattle.std.proofs.lemmas.List.{take_all}
 use Rattle.desk_text.specs.Network.{Block}
-use Rattle.desk_report.specs.Classes.{class_run}
+use Rattle.page_data.specs.Classes.{class_run}
 use Rattle.page_maps.specs.Figures.{figure}
 use Rattle.page_maps.specs.PrivateFigures.{GainsEach}
 use Rattle.page_maps.proofs.Gaining.{gains_more, gains_none}

@@ -1,7 +1,7 @@
 -- The networks so far have their figures.
 use Rattle.std.proofs.Common.{map, take}
 use Rattle.std.specs.String.{string_bytes}
-use Rattle.desk_report.specs.Classes.{class_run}
+use Rattle.page_data.specs.Classes.{class_run}
 use Rattle.page_maps.specs.PrivateFigures.{GainsFigures}
 use Rattle.page_maps.proofs.figures.push_figures.Given as goal
 

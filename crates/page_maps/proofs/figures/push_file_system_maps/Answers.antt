@@ -1,7 +1,7 @@
 use Rattle.std.proofs.Common.{◌∙◌, List, ap, map, subst}
 use Rattle.std.specs.String.{string_bytes}
 use Rattle.desk_text.specs.Network.{Block}
-use Rattle.desk_report.specs.Classes.{class_run}
+use Rattle.page_data.specs.Classes.{class_run}
 use Rattle.page_maps.specs.Maps.{maps_with_fixed}
 use Rattle.page_maps.specs.Figures.{GainsMaps, most_of_file_system}
 use Rattle.page_maps.proofs.figures.push_file_system_maps.Goals as goal

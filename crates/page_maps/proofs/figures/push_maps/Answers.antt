@@ -4,11 +4,11 @@ use Rattle.std.specs.String.{string_bytes}
 use Rattle.std.proofs.lemmas.List.{drop_min, take_min}
 use Rattle.std.proofs.lemmas.List.Elements.{All-take}
 use Rattle.desk_text.specs.Network.{Block}
-use Rattle.desk_report.specs.Classes.{class_run}
+use Rattle.page_data.specs.Classes.{class_run}
 use Rattle.page_maps.specs.Maps.{IsWide}
 use Rattle.page_maps.specs.DrawnMaps.{AreDrawnFrom}
 use Rattle.page_maps.specs.Figures.{each_figure, not_drawn}
-use Rattle.desk_page.proofs.Gaining.{four_pieces}
+use Rattle.page_html.proofs.Gaining.{four_pieces}
 use Rattle.page_maps.proofs.figures.push_maps.Goals as goal
 
 pub push_figures-requires-clause-wide : goal.push_figures-requires-clause-wide

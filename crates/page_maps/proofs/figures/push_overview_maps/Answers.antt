@@ -1,6 +1,6 @@
 use Rattle.std.proofs.Common.{◌∙◌, List, map, subst}
 use Rattle.desk_text.specs.Network.{Block}
-use Rattle.desk_report.specs.Classes.{class_run}
+use Rattle.page_data.specs.Classes.{class_run}
 use Rattle.page_maps.specs.DrawnMaps.{AreDrawnFrom}
 use Rattle.page_maps.proofs.figures.push_overview_maps.Goals as goal
 

@@ -1,7 +1,7 @@
 -- The networks so far have their cells.
 use Rattle.std.proofs.Common.{map, take}
 use Rattle.std.specs.String.{string_bytes}
-use Rattle.desk_report.specs.Classes.{class_run}
+use Rattle.page_data.specs.Classes.{class_run}
 use Rattle.page_maps.specs.PrivateFigures.{GainsCells}
 use Rattle.page_maps.proofs.figures.push_small_cells.Given as goal
 

@@ -4,7 +4,7 @@ use Rattle.std.proofs.lemmas.List.{take_all}
 use Rattle.std.proofs.lemmas.Result.{IfOk-weaker}
 use Rattle.desk_text.specs.Address.{number_of}
 use Rattle.desk_text.specs.Network.{Block}
-use Rattle.desk_report.specs.Classes.{class_run}
+use Rattle.page_data.specs.Classes.{class_run}
 use Rattle.page_maps.specs.Maps.{AreMapsFrom, IsWide, map_at}
 use Rattle.page_maps.specs.Order.{AreOrdered}
 use Rattle.page_maps.proofs.Ordered.{all_ordered}

@@ -1,6 +1,0 @@
-pub mod CodesRead
-pub mod Gaining
-pub mod Gathered
-pub mod Telling
-pub mod Markup
-pub mod Threes

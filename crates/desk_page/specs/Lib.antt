@@ -1,9 +1,0 @@
-pub mod Amounts
-pub mod Escaping
-pub mod Facts
-pub mod Laws
-pub mod Numbers
-pub mod Pieces
-pub mod Ranges
-pub mod Terms
-pub mod TextRows

@@ -1,2 +1,0 @@
-mod InForce
-mod Lined

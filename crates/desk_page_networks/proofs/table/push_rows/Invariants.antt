@@ -1,9 +1,0 @@
--- The rows so far were added.
-use Rattle.std.proofs.Common.{◌≡◌, ◌++◌, take}
-use Rattle.std.specs.List.{flat_map}
-use Rattle.std.specs.String.{string_bytes}
-use Rattle.desk_page_networks.specs.Table.{row}
-use Rattle.desk_page_networks.proofs.table.push_rows.Given as goal
-
-abbrev pub invariant-loop-row : goal.invariant-loop-row
-invariant-loop-row l = string_bytes l.page ≡ string_bytes l.initial.page ++ flat_map (row l.policy) (take l.row-index l.rows)

@@ -1,4 +1,0 @@
-pub mod Rows
-pub mod Cells
-pub mod Table
-pub mod Laws

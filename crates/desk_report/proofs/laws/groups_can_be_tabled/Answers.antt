@@ -1,5 +1,0 @@
-use Rattle.desk_report.proofs.Orders.{groups_can_be_tabled}
-use Rattle.desk_report.proofs.laws.groups_can_be_tabled.Goals as goal
-
-pub returns : goal.returns
-returns c = groups_can_be_tabled

@@ -1,5 +1,0 @@
-use Rattle.desk_report.proofs.GrantsNothing.{idle_lines_grant_nothing}
-use Rattle.desk_report.proofs.laws.idle_lines_grant_nothing.Goals as goal
-
-pub returns : goal.returns
-returns c = idle_lines_grant_nothing

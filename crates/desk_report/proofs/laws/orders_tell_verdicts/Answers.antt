@@ -1,5 +1,0 @@
-use Rattle.desk_report.proofs.Orders.{orders_tell_verdicts}
-use Rattle.desk_report.proofs.laws.orders_tell_verdicts.Goals as goal
-
-pub returns : goal.returns
-returns c = orders_tell_verdicts c.places_tell_scope.ensures

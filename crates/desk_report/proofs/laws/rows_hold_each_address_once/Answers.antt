@@ -1,5 +1,0 @@
-use Rattle.desk_report.proofs.HeldOnce.{rows_hold_each_address_once}
-use Rattle.desk_report.proofs.laws.rows_hold_each_address_once.Goals as goal
-
-pub returns : goal.returns
-returns c = rows_hold_each_address_once

@@ -1,5 +1,0 @@
-use Rattle.desk_report.proofs.AddingUp.{tables_add_up}
-use Rattle.desk_report.proofs.laws.tables_add_up.Goals as goal
-
-pub returns : goal.returns
-returns c = tables_add_up c.verdicts_are_discrete.ensures

@@ -1,5 +1,0 @@
-use Rattle.desk_report.proofs.Served.{write_directories}
-use Rattle.desk_report.proofs.server.server_findings.Goals as goal
-
-pub wider_grants-requires : goal.wider_grants-requires
-wider_grants-requires c = write_directories c.args.index.now c.args.fs.0 c.requires

@@ -1,9 +1,0 @@
--- The ranges so far.
-use Rattle.std.proofs.Common.{◌≡◌, map, take}
-use Rattle.std.specs.List.{sum_by}
-use Rattle.desk_who.specs.Who.{range_value}
-use Rattle.desk_report.specs.PrivateTables.{denied_in}
-use Rattle.desk_report.proofs.tables.denied_among.Given as goal
-
-abbrev pub invariant-loop-range : goal.invariant-loop-range
-invariant-loop-range l = l.count ≡ sum_by denied_in (map range_value (take l.range-index l.ranges))

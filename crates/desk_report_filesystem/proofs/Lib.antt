@@ -1,4 +1,0 @@
-mod Between
-mod Each
-mod Noted
-pub mod Standing

@@ -1,5 +1,0 @@
-use Rattle.desk_report_filesystem.proofs.Each.{each_line_has_a_note}
-use Rattle.desk_report_filesystem.proofs.laws.each_line_has_a_note.Goals as goal
-
-pub returns : goal.returns
-returns c = each_line_has_a_note

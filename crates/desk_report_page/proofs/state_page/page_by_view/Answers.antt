@@ -1,5 +1,0 @@
-use Rattle.desk_report_page.proofs.Sites.{is_root}
-use Rattle.desk_report_page.proofs.state_page.page_by_view.Goals as goal
-
-pub page_by_root-requires-clause-root : goal.page_by_root-requires-clause-root
-page_by_root-requires-clause-root c = is_root c.in-Ok.root c.in-Ok.ensures

@@ -1,5 +1,0 @@
-use Rattle.desk_report_places.proofs.WithLines.{changes_are_of_whole}
-use Rattle.desk_report_places.proofs.laws.changes_are_of_whole.Goals as goal
-
-pub returns : goal.returns
-returns c = changes_are_of_whole

@@ -1,9 +1,0 @@
--- The place is one of those so far.
-use Rattle.std.proofs.Common.{◌≡◌, map, take}
-use Rattle.desk_impact.specs.Places.{place_of}
-use Rattle.desk_impact.specs.Sections.{section_value}
-use Rattle.desk_report_places.specs.Openings.{is_among}
-use Rattle.desk_report_places.proofs.openings.is_among.Given as goal
-
-abbrev pub invariant-loop-section : goal.invariant-loop-section
-invariant-loop-section l = l.has ≡ is_among (map section_value (take l.section-index l.places)) (place_of l.place)

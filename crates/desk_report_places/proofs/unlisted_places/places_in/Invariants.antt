@@ -1,9 +1,0 @@
--- The places of the groups so far.
-use Rattle.std.proofs.Common.{◌≡◌, map, take}
-use Rattle.desk_impact.specs.Places.{place_of}
-use Rattle.desk_report.specs.Groups.{group_value}
-use Rattle.desk_report_places.specs.Groups.{places_in}
-use Rattle.desk_report_places.proofs.unlisted_places.places_in.Given as goal
-
-abbrev pub invariant-loop-group : goal.invariant-loop-group
-invariant-loop-group l = map place_of l.places.items ≡ places_in (map group_value (take l.group-index l.groups))

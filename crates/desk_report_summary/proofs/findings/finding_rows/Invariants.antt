@@ -1,9 +1,0 @@
--- The rows so far.
-use Rattle.std.proofs.Common.{◌≡◌, map, take}
-use Rattle.desk_report_summary.specs.SiteFinding.{finding_value}
-use Rattle.desk_report_summary.specs.Files.{line_values}
-use Rattle.desk_report_summary.specs.FindingRows.{row_of, row_value}
-use Rattle.desk_report_summary.proofs.findings.finding_rows.Given as goal
-
-abbrev pub invariant-loop-one : goal.invariant-loop-one
-invariant-loop-one l = map row_value l.rows.items ≡ map (λ one. row_of l.table (map line_values l.texts) (finding_value one)) (take l.one-index l.found)

@@ -1,5 +1,0 @@
-use Rattle.desk_report_summary.proofs.Deciders.{named_decide}
-use Rattle.desk_report_summary.proofs.laws.named_lines_decide.Goals as goal
-
-pub returns : goal.returns
-returns c = named_decide

@@ -1,7 +1,0 @@
--- The rows of the file systems so far.
-use Rattle.desk_report_summary.specs.SiteData.{site_parts}
-use Rattle.desk_report_summary.proofs.Rowed.{AreFirstRows}
-use Rattle.desk_report_summary.proofs.overview.system_rows.Given as goal
-
-abbrev pub invariant-loop-place : goal.invariant-loop-place
-invariant-loop-place l = AreFirstRows (site_parts l.site) l.place l.rows.items

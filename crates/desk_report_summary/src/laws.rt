@@ -1,8 +1,0 @@
-//! What the definitions of this crate keep, each as a function that does nothing.
-
-ghost use Rattle.desk_report_summary.specs.Laws.{NamedLinesDecide};
-
-/// The lines that are named in place of one that never decides are just those that decide for its clients.
-pub fn named_lines_decide()
-    ensures { NamedLinesDecide }
-{}

@@ -1,0 +1,6 @@
+mod InForce
+mod Lined
+mod Between
+mod Each
+mod Noted
+pub mod Standing

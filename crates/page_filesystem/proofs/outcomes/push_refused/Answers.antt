@@ -1,0 +1,15 @@
+use Rattle.std.proofs.Common.{codes}
+use Rattle.std.specs.String.{string_bytes}
+use Rattle.std.proofs.lemmas.Result.{on_ok_weaker}
+use Rattle.page_html.specs.Pieces.{code}
+use Rattle.page_html.proofs.Gaining.{pushed_last, three_pieces}
+use Rattle.page_filesystem.proofs.outcomes.push_refused.Goals as goal
+
+pub returns : goal.returns
+returns c =
+    on_ok_weaker c.push_str-2.result
+    (three_pieces (string_bytes c.args.page.now) (string_bytes c.push_str.new.self) (string_bytes c.push_code.new.page)
+    (string_bytes c.push_str-2.new.self) (codes "<p>It cannot be put in force now: ") (code c.args.fault.now) (codes ".</p>\n")
+    c.in_ok-push_str.ensures.bytes c.in_ok-push_code.ensures)
+    (pushed_last c.push_str-2.result (string_bytes c.push_code.new.page) (string_bytes c.push_str-2.new.self) (codes ".</p>\n")
+    c.push_str-2.ensures.bytes)

@@ -1,0 +1,15 @@
+pub mod Facts
+pub mod Findings
+pub mod Gutter
+pub mod Outcomes
+pub mod Parts
+pub mod Proposals
+pub mod Sections
+pub mod Shares
+pub mod Texts
+pub mod Counting
+pub mod Laws
+pub mod Notes
+pub mod OwnLines
+pub mod OwnParts
+pub mod CountedShares

@@ -1,0 +1,16 @@
+pub mod Openings
+pub mod Groups
+pub mod Laws
+pub mod Lists
+pub mod Names
+pub mod Rows
+pub mod Tables
+pub mod Changes
+pub mod Directories
+pub mod ListedOpenings
+pub mod ListedGroups
+pub mod ListedLaws
+pub mod Maps
+pub mod PrivateChanges
+pub mod PrivateImpacts
+pub mod ChangeRows

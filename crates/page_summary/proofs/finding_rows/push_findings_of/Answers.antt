@@ -1,0 +1,37 @@
+use Rattle.std.proofs.Common.{◌≡◌, ◌++◌, ◌∙◌, List, ap, map}
+use Rattle.std.specs.String.{string_bytes}
+use Rattle.std.proofs.lemmas.Result.{on_ok_weaker}
+use Rattle.page_findings.specs.Deciding.{deciding_value}
+use Rattle.page_findings.specs.Lines.{line_value}
+use Rattle.page_summary.specs.declared.findings.FindingRow.{FindingRow}
+use Rattle.page_summary.specs.SiteFinding.{finding_value, findings_among}
+use Rattle.page_summary.specs.Files.{line_values, text_in_force}
+use Rattle.page_summary.specs.FindingRows.{findings_text, row_of, row_value}
+use Rattle.page_summary.proofs.finding_rows.push_findings_of.Goals as goal
+
+pub returns : goal.returns
+returns c =
+    let table = c.args.policy.now.table in
+    let heads = c.args.heads.now in
+    let decided = map deciding_value c.args.deciding.now in
+    let found = c.in_ok-found.found.items in
+    let told = c.in_ok-told.told.items in
+    let texts = c.in_ok-texts.texts.items in
+    let rows = c.in_ok-rows.rows.items in
+    let in_force : map line_values texts ≡ map (text_in_force heads) table =
+    c.in_ok-texts.ensures ∙ ap (map (text_in_force heads)) (c.as_slice-2.ensures ∙ c.filesystems-table.ensures) in
+    let are_told : map finding_value told ≡ findings_among decided (map line_value found) =
+    c.in_ok-told.ensures ∙ ap (λ lines. findings_among decided (map line_value lines)) c.as_slice.ensures.value in
+    let are_rows : map row_value rows ≡ map (row_of table (map (text_in_force heads) table)) (findings_among decided (map line_value found)) =
+    c.in_ok-rows.ensures ∙ ap (λ t. map (row_of t (map line_values c.as_slice-3.result.now)) (map finding_value c.as_slice-4.result.now)) c.filesystems-table.ensures
+    ∙ ap (λ lent. map (row_of table (map line_values lent)) (map finding_value c.as_slice-4.result.now)) c.as_slice-3.ensures.value
+    ∙ ap (λ lines. map (row_of table lines) (map finding_value c.as_slice-4.result.now)) in_force
+    ∙ ap (λ lent. map (row_of table (map (text_in_force heads) table)) (map finding_value lent)) c.as_slice-4.ensures.value
+    ∙ ap (map (row_of table (map (text_in_force heads) table))) are_told in
+    on_ok_weaker c.push_rows.result
+    (λ ended. record {
+      made = rows;
+      are = record { found = map line_value found; are = c.in_ok-found.ensures; told = are_rows };
+      added = ended ∙ ap (λ (rs : List FindingRow). string_bytes c.args.page.now ++ findings_text rs) c.as_slice-5.ensures.value;
+    })
+    c.push_rows.ensures

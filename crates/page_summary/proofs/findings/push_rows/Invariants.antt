@@ -1,0 +1,9 @@
+-- The ones so far were added.
+use Rattle.std.proofs.Common.{◌≡◌, ◌++◌, take}
+use Rattle.std.specs.List.{flat_map}
+use Rattle.std.specs.String.{string_bytes}
+use Rattle.page_summary.specs.Findings.{row}
+use Rattle.page_summary.proofs.findings.push_rows.Given as goal
+
+abbrev pub invariant-loop-row : goal.invariant-loop-row
+invariant-loop-row l = string_bytes l.page ≡ string_bytes l.initial.page ++ flat_map row (take l.row-index l.rows)

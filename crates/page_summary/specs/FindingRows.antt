@@ -1,0 +1,35 @@
+-- The rows of the lines that stand out. (this project's own)
+use Rattle.std.specs.Prelude.{◌≡◌, ◌++◌, ℕ, List, map}
+use Rattle.desk_tables.specs.declared.filesystems.Mount.{Mount}
+use Rattle.desk_core.specs.declared.head.Head.{Head}
+use Rattle.page_findings.specs.Deciding.{DecidedFor}
+use Rattle.page_findings.specs.Findings.{AreFindings}
+use Rattle.page_findings.specs.Lines.{LineValue}
+use Rattle.page_summary.specs.Findings.{counted_findings, findings}
+use Rattle.page_summary.specs.declared.findings.FindingRow.{FindingRow}
+use Rattle.page_summary.specs.SiteFinding.{FindingValue, finding_value, findings_among}
+use Rattle.page_summary.specs.Files.{line_in, name_of, text_in_force}
+
+-- a line that stands out, the name of its file system, and the first physical line of its text
+pub record RowValue : Type 0 where
+  pub told : FindingValue
+  pub system : List ℕ
+  pub text : List ℕ
+
+abbrev pub row_value : FindingRow → RowValue
+row_value row = record { told = finding_value (record { finding = row.finding; count = row.count }); system = row.system.now; text = row.text.now }
+
+-- the row of a line that stands out, given the lines in force of each file system
+abbrev pub row_of : List Mount → List (List (List ℕ)) → FindingValue → RowValue
+row_of table texts told = record { told = told; system = name_of table told.fs; text = line_in texts told.fs told.line }
+
+-- The rows of the lines that stand out, those to be looked at first first, given which lines decide in place of those that never do.
+pub record AreFindingRows (table : List Mount) (heads : List Head) (decided : List (List DecidedFor)) (lines : List LineValue)
+    (rows : List FindingRow) : Type 0 where
+  pub found : List LineValue
+  pub are : AreFindings lines found
+  pub told : map row_value rows ≡ map (row_of table (map (text_in_force heads) table)) (findings_among decided found)
+
+-- how many there are of each level, and all of them
+abbrev pub findings_text : List FindingRow → List ℕ
+findings_text rows = counted_findings rows ++ findings rows

@@ -1,0 +1,63 @@
+-- The lines of a site that stand out, as the words of the page tell them. (this project's own)
+use Rattle.std.specs.Prelude.{ℕ, ◌==◌, ◌∷◌, [], not, Bool, false, List, filter, if◌then◌else◌, map, slice_index_or}
+use Rattle.desk_exports.specs.declared.entry.Clients.{Clients}
+use Rattle.desk_exports.specs.declared.entry.Clients.TheVariants.{Hosts, Net, Net6, World}
+use Rattle.desk_exports.specs.declared.entry.Terms.{Terms}
+use Rattle.page_findings.specs.Deciding.{DecidedFor, deciding_of}
+use Rattle.page_findings.specs.Findings.{stands_out}
+use Rattle.page_findings.specs.Lines.{LineValue}
+use Rattle.page_data.specs.declared.reasons.Reason.{Reason}
+use Rattle.page_summary.specs.declared.site_finding.SiteFinding.{SiteFinding}
+
+-- what is told of a line that stands out: its file system, its number, why it stands out, its terms, whether it writes a network of IPv4
+-- that does not have every address, the lines that decide in its place, and to how many addresses it grants something
+pub record FindingValue : Type 0 where
+  pub fs : ℕ
+  pub line : ℕ
+  pub reasons : List Reason
+  pub terms : Terms
+  pub is_for_network : Bool
+  pub deciding : List ℕ
+  pub count : ℕ
+
+abbrev pub finding_value : SiteFinding → FindingValue
+finding_value one = record {
+  fs = one.finding.fs.0;
+  line = one.finding.line;
+  reasons = one.finding.reasons.now;
+  terms = one.finding.terms.now;
+  is_for_network = one.finding.is_for_network;
+  deciding = one.finding.deciding.now;
+  count = one.count;
+}
+
+-- clients are a network of IPv4 that does not have every address
+abbrev pub is_for_network : Clients → Bool
+is_for_network (Hosts names) = false
+is_for_network (Net net noted) = not (net.prefix == 0)
+is_for_network (Net6 value) = false
+is_for_network World = false
+
+-- the lines that decide for the clients of a line, given those of each file system: none if nothing is told of it
+abbrev pub deciding_for : List (List DecidedFor) → ℕ → ℕ → List ℕ
+deciding_for decided fs line = deciding_of line (slice_index_or decided fs [])
+
+-- What is told of a line that stands out.
+abbrev pub finding_of : List (List DecidedFor) → LineValue → FindingValue
+finding_of decided line = record {
+  fs = line.fs;
+  line = line.row.entry.line;
+  reasons = line.reasons;
+  terms = line.row.entry.terms;
+  is_for_network = is_for_network line.row.entry.clients;
+  deciding = deciding_for decided line.fs line.row.entry.line;
+  count = line.count;
+}
+
+-- a line, if it stands out
+abbrev pub finding_if : List (List DecidedFor) → LineValue → List FindingValue
+finding_if decided line = if stands_out line then finding_of decided line ∷ [] else []
+
+-- Of those of the lines that stand out, in their order.
+abbrev pub findings_among : List (List DecidedFor) → List LineValue → List FindingValue
+findings_among decided lines = map (finding_of decided) (filter stands_out lines)
