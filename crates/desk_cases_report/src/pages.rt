@@ -7,8 +7,8 @@ use desk_core::{State, can_be_kept, can_be_pending};
 use desk_index::Index;
 use page_lists::text_digest;
 use page_site::page_of_state;
-use std::mem;
 use std::alloc::Global;
+use std::mem;
 
 /// `page DB`: the page for this word, of a database with the revisions and the proposals that were kept, which are then forgotten: the
 /// SHA-256 of the page, and how many bytes it has; or the fault of the site.

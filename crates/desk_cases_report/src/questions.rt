@@ -10,8 +10,8 @@ ghost use Rattle.page_data.specs.Laws.{IsSoundSite, TellVerdicts};
 ghost use Rattle.page_data.specs.Systems.{AreSystems, system_value};
 ghost use Rattle.page_data.specs.Values.{AreRunsOfSome};
 
-use crate::{classes, lines, pages, places, revisions, standing};
 use crate::subject::Subject;
+use crate::{classes, lines, pages, places, revisions, standing};
 use desk_cases_texts::answers::{Asked, number, split};
 use desk_cases_texts::indexes::add_by_keys;
 use desk_cases_texts::sites::say_fault;

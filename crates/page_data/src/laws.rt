@@ -6,8 +6,8 @@ ghost use Rattle.page_data.specs.Laws.{AlikePlacesAreDeniedAlike, ClassesAreUniq
 
 use crate::class::Class;
 use desk_impact::places_tell_scope;
-use desk_policy::{Policy, Row, Verdict};
 use desk_policy::laws::{lines_have_directories, lines_write_their_own};
+use desk_policy::{Policy, Row, Verdict};
 use desk_tables::laws::tables_are_in_order;
 use desk_text::Sequence;
 use desk_who::{

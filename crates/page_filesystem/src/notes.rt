@@ -11,8 +11,8 @@ ghost use Rattle.page_filesystem.specs.Notes.{LinesAscend, NotesAscend};
 use crate::gutter::{Note, Said};
 use desk_exports::lines::read_grammar_line;
 use desk_text::{Line, LogicalLines, ReadError};
-use page_data::{Class, Reason};
 use page_data::reasons::are_all;
+use page_data::{Class, Reason};
 use page_findings::SiteLine;
 use std::alloc::{AllocError, Global};
 

@@ -7,7 +7,7 @@ ghost use Rattle.page_filesystem.specs.Shares as spec;
 use desk_text::Addr;
 use page_data::Counts;
 use page_html::{
-    push_box_start, push_code, push_network, push_number, push_portion, push_percent, push_plural,
+    push_box_start, push_code, push_network, push_number, push_percent, push_plural, push_portion,
 };
 use std::alloc::{AllocError, Global};
 

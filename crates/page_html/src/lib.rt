@@ -33,7 +33,9 @@ pub use escaping::{push_attribute, push_escaped, push_escaped_line};
 pub use facts::{push_guarded, push_in_force, push_kept_by, push_revision};
 pub use head::push_page_head;
 pub use images::Drawn;
-pub use laws::{lists_say_what_they_leave_out, nothing_is_fetched_or_run, pages_are_made_of_pieces};
+pub use laws::{
+    lists_say_what_they_leave_out, nothing_is_fetched_or_run, pages_are_made_of_pieces,
+};
 pub use numbers::push_number;
 pub use parts::{Part, push_part, push_parts};
 pub use pieces::{

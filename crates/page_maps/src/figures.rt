@@ -16,7 +16,7 @@ use crate::maps::{maps_of, with_fixed_maps};
 use desk_text::Net;
 use desk_who::Run;
 use page_data::Class;
-use page_html::{push_network, push_portion, push_plural};
+use page_html::{push_network, push_plural, push_portion};
 use std::alloc::{AllocError, Global};
 
 /// How many maps a file system has at most, and how many a group of directories: `most_of_file_system` and `most_of_group`.
