@@ -111,7 +111,7 @@ fn push_more_systems(
 }
 
 /// Adds a file system, and what all addresses may there.
-#[tactic(auto, unfolding(crate::specs::Cells::alike))]
+#[tactic(auto, unfolding(crate::specs::NetworkCells::alike))]
 fn push_alike(policy: &Policy, one: &SystemClass, page: &mut String) -> Result<(), AllocError>
     ensures { OnOk result (string_bytes page.new ≡ string_bytes page.old ++ spec.alike policy.now one.now) }
 {
@@ -205,7 +205,7 @@ fn push_later_parts(
 }
 
 /// Adds a file system, and how many addresses may what there.
-#[tactic(auto, unfolding(crate::specs::Cells::part))]
+#[tactic(auto, unfolding(crate::specs::NetworkCells::part))]
 fn push_part(
     alloc: Global,
     policy: &Policy,

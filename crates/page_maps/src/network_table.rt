@@ -93,7 +93,7 @@ fn push_some_networks(
 }
 
 /// Adds the rows.
-#[tactic(auto, unfolding(crate::specs::Table::rows))]
+#[tactic(auto, unfolding(crate::specs::NetworkTable::rows))]
 fn push_rows(
     alloc: Global,
     policy: &Policy,
@@ -109,7 +109,7 @@ fn push_rows(
 }
 
 /// Adds a row.
-#[tactic(auto, unfolding(crate::specs::Table::row))]
+#[tactic(auto, unfolding(crate::specs::NetworkTable::row))]
 fn push_row(
     alloc: Global,
     policy: &Policy,

@@ -114,7 +114,7 @@ fn push_change_table(
 }
 
 /// Begins the table of changes.
-#[tactic(auto, unfolding(crate::specs::Changes::change_heads))]
+#[tactic(auto, unfolding(crate::specs::ChangeRows::change_heads))]
 fn push_change_heads(page: &mut String) -> Result<(), AllocError>
     ensures { OnOk result (string_bytes page.new ≡ string_bytes page.old ++ spec.change_heads) }
 {
@@ -124,7 +124,7 @@ fn push_change_heads(page: &mut String) -> Result<(), AllocError>
 }
 
 /// Adds a row for each change.
-#[tactic(auto, unfolding(crate::specs::Changes::change_rows))]
+#[tactic(auto, unfolding(crate::specs::ChangeRows::change_rows))]
 fn push_change_rows(
     alloc: Global,
     rows: &[ChangeRow<'_>],
