@@ -8,7 +8,7 @@ use Rattle.page_data.specs.declared.class.Class.TheVariants.{Denied, ReadOnly, R
 use Rattle.page_maps.specs.declared.cells.Cell.{Cell}
 use Rattle.page_html.specs.Numbers.{number}
 use Rattle.page_html.specs.Ranges.{network_text}
-use Rattle.page_findings.specs.Badges.{count_words}
+use Rattle.page_maps.specs.Counts.{count_words}
 use Rattle.page_maps.specs.Paths.{ground_path, mark_path}
 use Rattle.page_maps.specs.declared.drawn_maps.DrawnMap.{DrawnMap}
 use Rattle.page_maps.specs.declared.paths.Shape.{Shape}

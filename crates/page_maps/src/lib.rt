@@ -13,6 +13,7 @@
 #![tactic(auto)]
 
 pub mod cells;
+mod counts;
 mod drawing;
 pub mod drawn_maps;
 pub mod figures;
