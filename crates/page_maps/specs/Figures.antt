@@ -6,25 +6,23 @@ use Rattle.desk_who.specs.Runs.{Run}
 use Rattle.page_data.specs.Counts.{granted_of}
 use Rattle.page_data.specs.declared.class.Class.{Class}
 use Rattle.page_maps.specs.Maps.{AreMapsFrom, fixed_maps, maps_with_fixed}
-use Rattle.page_html.specs.Ranges.{network_text}
-use Rattle.page_html.specs.PartAmounts.{part_of}
 use Rattle.page_html.specs.Blocks.{element_html, tag_html}
-use Rattle.page_html.specs.Items.{Item, Drawn, Nothing, Own, Plural, Words}
+use Rattle.page_html.specs.Items.{Item, Drawn, Nothing, Own, PartOf, Plural, Words, items_html}
 use Rattle.page_html.specs.declared.blocks.Element.TheVariants.{Cut, Figure}
 use Rattle.page_html.specs.declared.blocks.Tag.TheVariants.{MapsEnd, MapsStart}
-use Rattle.page_maps.specs.Drawing.{large_map, small_map}
+use Rattle.page_maps.specs.Drawing.{large_map, network_item, small_map}
 use Rattle.page_maps.specs.DrawnMaps.{AreDrawnFrom}
 use Rattle.page_maps.specs.declared.drawn_maps.DrawnMap.{DrawnMap}
 
 -- what a network is called below its map
-abbrev pub network_name : Block → List ℕ
-network_name network = if network.prefix == 0 then codes "all of IPv4" else network_text network.first network.prefix
+abbrev pub name_item : Block → Item (List ℕ)
+name_item network = if network.prefix == 0 then Own (Words (codes "all of IPv4")) else network_item network
 
 -- how many of its addresses may mount something
 abbrev pub caption : DrawnMap → List ℕ
 caption drawn =
-    codes "<figcaption><b>" ++ network_name drawn.network ++ codes "</b> " ++ part_of (granted_of drawn.counts) (block_size drawn.network.prefix)
-    ++ codes " may</figcaption>"
+    codes "<figcaption><b>" ++ items_html (name_item drawn.network ∷ []) ++ codes "</b> "
+    ++ items_html (Own (PartOf (granted_of drawn.counts) (block_size drawn.network.prefix)) ∷ []) ++ codes " may</figcaption>"
 
 -- a map with its caption
 abbrev pub figure_image : DrawnMap → List ℕ

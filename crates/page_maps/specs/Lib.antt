@@ -7,7 +7,6 @@ pub mod LineNetworks
 pub mod DrawnMaps
 pub mod Paths
 pub mod Grounds
-pub mod Counts
 pub mod Drawing
 pub mod Figures
 pub mod PrivateFigures

@@ -4,16 +4,18 @@ ghost use Rattle.std.specs.Prelude.{◌≡◌, ◌++◌, ◌≤◌, IfOk, OnOk, 
 ghost use Rattle.std.specs.List.{list_any};
 ghost use Rattle.desk_text.specs.Network.{block_size};
 ghost use Rattle.page_data.specs.Class.{same_class};
+ghost use Rattle.page_findings.specs.Badges.{count_words};
 ghost use Rattle.page_html.specs.Images.{image_html};
+ghost use Rattle.page_html.specs.Parts.{item_of};
 ghost use Rattle.page_maps.specs.Drawing as spec;
 
 use crate::cells::Cell;
-use crate::counts::push_counts;
 use crate::drawn_maps::DrawnMap;
 use crate::paths::{Shape, push_ground_path, push_mark_path};
 use desk_text::Net;
-use page_data::Class;
-use page_html::Drawn;
+use page_data::{Class, Counts};
+use page_findings::{Measure, measured};
+use page_html::{Drawn, Part};
 use std::alloc::{AllocError, Global};
 
 /// Adds a map with the numbers of its rows, and a grid.
@@ -65,30 +67,49 @@ fn axis_of(network: Net) -> &'static str
 fn push_label(alloc: Global, drawn: &DrawnMap, image: &mut Drawn) -> Result<(), AllocError>
     ensures { OnOk result (image_html image.new ≡ image_html image.old ++ spec.label drawn.now) }
 {
-    push_label_start(drawn.network, image)?;
+    push_label_start(alloc, drawn.network, image)?;
     push_counts(alloc, &drawn.counts, image)?;
     push_label_end(alloc, drawn.network, image)?;
     Ok(())
 }
 
 /// Adds which network it is.
-fn push_label_start(network: Net, image: &mut Drawn) -> Result<(), AllocError>
+fn push_label_start(alloc: Global, network: Net, image: &mut Drawn) -> Result<(), AllocError>
     ensures { OnOk result (image_html image.new ≡ image_html image.old ++ spec.label_start network) }
 {
-    image.push_fixed("Map of ")?;
-    image.push_network(network.first(), network.prefix().get())?;
-    image.push_fixed(": ")?;
-    Ok(())
+    let parts = [
+        Part::Words("Map of "),
+        network_part(network),
+        Part::Words(": "),
+    ];
+    image.push_parts(alloc, &parts)
+}
+
+/// Returns a network, which has its prefix even if it is one address.
+pub(crate) fn network_part<'a>(network: Net) -> Part<'a>
+    ensures { item_of result ≡ spec.network_item network }
+{
+    Part::Network(network.first(), network.prefix().get())
+}
+
+/// Adds how many of its addresses are of which class.
+fn push_counts(alloc: Global, counts: &Counts, image: &mut Drawn) -> Result<(), AllocError>
+    ensures { OnOk result (image_html image.new ≡ image_html image.old ++ count_words counts.now) }
+{
+    let parts = measured(alloc, Measure::Count, counts)?;
+    image.push_parts(alloc, parts.as_slice())
 }
 
 /// Adds how many addresses it has.
 fn push_label_end(alloc: Global, network: Net, image: &mut Drawn) -> Result<(), AllocError>
     ensures { OnOk result (image_html image.new ≡ image_html image.old ++ spec.label_end network) }
 {
-    image.push_fixed(", of ")?;
-    image.push_number(alloc, size_of(network))?;
-    image.push_fixed(" addresses")?;
-    Ok(())
+    let parts = [
+        Part::Words(", of "),
+        Part::Number(size_of(network)),
+        Part::Words(" addresses"),
+    ];
+    image.push_parts(alloc, &parts)
 }
 
 /// Returns how many addresses a network has.

@@ -12,7 +12,7 @@ ghost use Rattle.page_maps.specs.DrawnMaps.{IsDrawable};
 ghost use Rattle.page_maps.specs.Figures as spec;
 ghost use Rattle.page_maps.specs.PrivateFigures.{GainsCells, GainsFigures};
 
-use crate::drawing::{push_large_map, push_small_map, size_of};
+use crate::drawing::{network_part, push_large_map, push_small_map, size_of};
 use crate::drawn_maps::{DrawnMap, drawn_map};
 use crate::maps::{maps_of, with_fixed_maps};
 use desk_text::Net;
@@ -135,21 +135,21 @@ fn push_caption(alloc: Global, drawn: &DrawnMap, image: &mut Drawn) -> Result<()
 {
     let granted = drawn.counts.granted();
     image.push_fixed("<figcaption><b>")?;
-    push_name(drawn.network, image)?;
+    image.push_parts(alloc, &[name_part(drawn.network)])?;
     image.push_fixed("</b> ")?;
-    image.push_part_of(alloc, granted, size_of(drawn.network))?;
+    image.push_parts(alloc, &[Part::PartOf(granted, size_of(drawn.network))])?;
     image.push_fixed(" may</figcaption>")?;
     Ok(())
 }
 
-/// Adds what a network is called.
-fn push_name(network: Net, image: &mut Drawn) -> Result<(), AllocError>
-    ensures { OnOk result (image_html image.new ≡ image_html image.old ++ spec.network_name network) }
+/// Returns what a network is called.
+fn name_part<'a>(network: Net) -> Part<'a>
+    ensures { item_of result ≡ spec.name_item network }
 {
     if network.prefix().get() == 0 {
-        image.push_fixed("all of IPv4")
+        Part::Words("all of IPv4")
     } else {
-        image.push_network(network.first(), network.prefix().get())
+        network_part(network)
     }
 }
 

@@ -13,7 +13,6 @@
 #![tactic(auto)]
 
 pub mod cells;
-mod counts;
 mod drawing;
 pub mod drawn_maps;
 pub mod figures;
