@@ -21,8 +21,8 @@ pub mod line_networks;
 pub mod maps;
 pub mod network_cells;
 pub mod network_laws;
-pub mod networks;
 pub mod network_table;
+pub mod networks;
 mod order;
 mod paths;
 pub mod shapes;
@@ -37,6 +37,6 @@ pub use laws::{
 pub use line_networks::{written_in_site, written_networks};
 pub use maps::{maps_of, with_fixed_maps};
 pub use network_laws::alike_means_all;
-pub use networks::{NetworkRow, SystemClass, SystemCounts, network_rows};
 pub use network_table::push_networks;
+pub use networks::{NetworkRow, SystemClass, SystemCounts, network_rows};
 pub use shapes::push_shapes;
