@@ -1,3 +1,4 @@
+mod Celled
 mod InForce
 mod Lined
 mod Between

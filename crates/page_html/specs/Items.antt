@@ -6,7 +6,7 @@ use Rattle.desk_exports.specs.declared.entry.Terms.{Terms as MountTerms}
 use Rattle.page_html.specs.Escaping.{attribute, escaped}
 use Rattle.page_html.specs.Numbers.{number}
 use Rattle.page_html.specs.Pieces.{code, code_list, line_link, system_link}
-use Rattle.page_html.specs.Ranges.{ends_of, range_text, ranges_text}
+use Rattle.page_html.specs.Ranges.{ends_of, network_text, range_text, ranges_text}
 use Rattle.page_html.specs.Terms.{terms_words}
 use Rattle.page_html.specs.declared.ranges.Span.{Span}
 use Rattle.page_html.specs.PartAmounts.{more, part_of, plural}
@@ -36,6 +36,7 @@ pub data OwnPart : Type 0 where
   SmallPercent : ℕ → ℕ → OwnPart
   LineLink : ℕ → ℕ → OwnPart
   Drawn : List ℕ → OwnPart
+  Network : ℕ → ℕ → OwnPart
   Range : Span → OwnPart
   Ranges : List Span → OwnPart
   Terms : MountTerms → OwnPart
@@ -75,6 +76,7 @@ own_html (SmallPlural count one several) = small_plural count one several
 own_html (SmallPercent count whole) = small_percent count whole
 own_html (LineLink fs line) = line_link fs line
 own_html (Drawn image) = image
+own_html (Network first prefix) = network_text first prefix
 own_html (Range span) = range_text (ends_of span)
 own_html (Ranges spans) = ranges_text spans
 own_html (Terms terms) = terms_words terms

@@ -1,6 +1,7 @@
 pub mod PartAmounts
 pub mod Blocks
 pub mod Head
+pub mod Images
 pub mod Items
 pub mod Laws
 pub mod Pages
