@@ -32,7 +32,12 @@ pub fn push_and_more(alloc: Global, count: u64, page: &mut String) -> Result<(),
 }
 
 /// Adds how much of a whole a number is.
-pub fn push_portion(alloc: Global, count: u64, whole: u64, page: &mut String) -> Result<(), AllocError>
+pub fn push_portion(
+    alloc: Global,
+    count: u64,
+    whole: u64,
+    page: &mut String,
+) -> Result<(), AllocError>
     requires { count ≤ whole }
     ensures { OnOk result (string_bytes page.new ≡ string_bytes page.old ++ spec.part count whole) }
 {

@@ -4,7 +4,7 @@ ghost use Rattle.std.specs.Prelude.{◌≡◌, ◌++◌, OnOk};
 ghost use Rattle.std.specs.String.{string_bytes};
 ghost use Rattle.page_html.specs.PartAmounts as spec;
 
-use crate::amounts::{push_and_more, push_portion, push_percent};
+use crate::amounts::{push_and_more, push_percent, push_portion};
 use crate::escaping::push_attribute;
 use crate::numbers::push_number;
 use std::alloc::{AllocError, Global};
