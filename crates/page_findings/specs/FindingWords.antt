@@ -28,9 +28,6 @@ flavour_item flavour = Own (Words (flavour_word flavour)) ∷ []
 abbrev pub flavour_items : List Flavour → List (Item (List ℕ))
 flavour_items flavours = joined flavour_item colon flavours
 
-unfoldable pub flavour_names : List Flavour → List ℕ
-flavour_names flavours = items_html (flavour_items flavours)
-
 -- a line is for everybody
 abbrev pub for_everybody : List ℕ → Terms → List (Item (List ℕ))
 for_everybody access terms =

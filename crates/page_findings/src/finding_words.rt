@@ -138,19 +138,6 @@ fn push_for_everybody<'a>(
 }
 
 /// Adds the names of flavours, as a line writes them.
-pub fn push_flavour_names(
-    alloc: Global,
-    flavours: &[Flavour],
-    page: &mut String,
-) -> Result<(), AllocError>
-    ensures { OnOk result (string_bytes page.new ≡ string_bytes page.old ++ spec.flavour_names flavours.now) }
-{
-    let mut parts = Vec::new(alloc);
-    push_flavours(flavours, &mut parts)?;
-    push_parts(alloc, parts.as_slice(), page)
-}
-
-/// Adds the names of flavours.
 fn push_flavours<'a>(flavours: &[Flavour], parts: &mut Vec<Part<'a>>) -> Result<(), AllocError>
     ensures { OnOk result (map item_of parts.new.items ≡ map item_of parts.old.items ++ spec.flavour_items flavours.now) }
 {

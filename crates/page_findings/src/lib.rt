@@ -33,7 +33,7 @@ pub use badges::{
 };
 pub use deciding::{Deciding, NeverDecides, deciding_lines};
 pub use figures::{Figures, figures_of_site};
-pub use finding_words::{Finding, finding_parts, push_finding_words, push_flavour_names};
+pub use finding_words::{Finding, finding_parts, push_finding_words};
 pub use findings::findings_of_site;
 pub use flavours::{FlavourUse, flavours_in_use};
 pub use laws::counted_lines_grant;

@@ -42,7 +42,9 @@ pub use pieces::{
     push_box_start, push_code, push_code_list, push_line_link, push_system_link, push_zero,
 };
 pub use ranges::{Span, push_network, push_range, push_ranges};
-pub use tables::{Column, Frame, push_line_row, push_marked_row, push_row, push_table_start};
+pub use tables::{
+    Column, Frame, push_cells, push_line_row, push_marked_row, push_row, push_table_start,
+};
 pub use terms::{push_flavours, push_terms};
 pub use text_laws::{no_text_is_markup, texts_are_told_apart};
 pub use text_rows::{push_count_cell, push_line_cell, push_row_start};

@@ -15,8 +15,8 @@ use crate::part_pieces::{
 };
 use crate::pieces::{push_code, push_code_list, push_line_link, push_system_link};
 use crate::ranges::{Span, push_network, push_range, push_ranges};
-use crate::terms::push_terms;
-use desk_exports::Terms;
+use crate::terms::{push_flavour_names, push_flavours, push_terms};
+use desk_exports::{Flavour, Terms};
 use desk_tables::FsId;
 use desk_text::{Addr, Text};
 use std::alloc::{AllocError, Global};
@@ -61,6 +61,9 @@ pub enum Part<'a> {
     Range(Span),
     Ranges(&'a [Span]),
     Terms(&'a Terms),
+    /// Flavours in words, and their names as a line writes them.
+    Flavours(&'a [Flavour]),
+    FlavourNames(&'a [Flavour]),
     /// A text without an element, for what is all commands.
     Text(&'a str),
     Code(&'a str),
@@ -112,6 +115,8 @@ pub fn push_part(alloc: Global, part: Part<'_>, page: &mut String) -> Result<(),
         Part::Range(span) => push_range(span.first, span.last, page),
         Part::Ranges(spans) => push_ranges(alloc, spans, page),
         Part::Terms(terms) => push_terms(terms, page),
+        Part::Flavours(flavours) => push_flavours(flavours, page),
+        Part::FlavourNames(flavours) => push_flavour_names(flavours, page),
         Part::Text(text) => push_escaped(text, page),
         Part::Code(text) => push_code(text, page),
         Part::Digest(text) => push_digest(text, page),

@@ -111,8 +111,8 @@ fn push_line_row_start(
     page.push_str(mark_end(is_marked))
 }
 
-/// Adds the cells of a row.
-pub(crate) fn push_cells(
+/// Adds the cells of a row, or some of them.
+pub fn push_cells(
     alloc: Global,
     columns: &[Column],
     cells: &[&[Part<'_>]],

@@ -9,7 +9,6 @@
 //! ```
 #![tactic(auto)]
 
-mod addresses;
 pub mod amounts;
 pub mod figures;
 mod files;
@@ -26,7 +25,6 @@ pub mod sections;
 pub mod site_finding;
 pub mod state;
 pub mod system_rows;
-mod tables;
 
 pub use amounts::revisions_and_files;
 pub use figures::{Figures, push_figures};

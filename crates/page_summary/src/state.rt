@@ -80,15 +80,11 @@ fn push_approver(approver: &Option<Text>, text: &mut String) -> Result<(), Alloc
 {
     match approver {
         None => Ok(()),
-        Some(name) => push_approved(name.as_str(), text),
+        Some(name) => {
+            let name = name.as_str();
+            write!(text, " approved by {name}")
+        }
     }
-}
-
-/// Adds who approved a revision.
-fn push_approved(name: &str, text: &mut String) -> Result<(), AllocError>
-    ensures { OnOk result (string_bytes text.new ≡ string_bytes text.old ++ spec.approved_by name.now) }
-{
-    write!(text, " approved by {name}")
 }
 
 /// Adds by which profile an exports file is read.
@@ -98,29 +94,17 @@ fn push_profile(head: &Head, text: &mut String) -> Result<(), AllocError>
     if SiteFile::is_name(head.file.as_str()) {
         Ok(())
     } else {
-        push_profile_number(head.profile.number(), text)
+        let number = head.profile.number();
+        write!(text, " profile {number}")
     }
-}
-
-/// Adds the number of a profile.
-fn push_profile_number(number: u32, text: &mut String) -> Result<(), AllocError>
-    ensures { OnOk result (string_bytes text.new ≡ string_bytes text.old ++ spec.profile_number_words number) }
-{
-    write!(text, " profile {number}")
 }
 
 /// Adds the digest of a file's text, and ends the line.
 fn push_line_end(alloc: Global, body: &str, text: &mut String) -> Result<(), AllocError>
     ensures { OnOk result (string_bytes text.new ≡ string_bytes text.old ++ spec.line_end body.now) }
 {
-    let digest = text_digest(alloc, body)?;
-    push_ended(digest.as_str(), text)
-}
-
-/// Adds a digest, and ends the line.
-fn push_ended(digest: &str, text: &mut String) -> Result<(), AllocError>
-    ensures { OnOk result (string_bytes text.new ≡ string_bytes text.old ++ spec.ended digest.now) }
-{
+    let made = text_digest(alloc, body)?;
+    let digest = made.as_str();
     write!(text, " {digest}\n")
 }
 

@@ -1,15 +1,18 @@
-use Rattle.std.proofs.Common.{codes}
+use Rattle.std.proofs.Common.{◌++◌, ◌-◌, ◌∙◌, ap, length}
+use Rattle.std.specs.Prelude.{count_by}
 use Rattle.std.specs.String.{string_bytes}
-use Rattle.page_summary.specs.Findings.{levels, rules_words}
-use Rattle.page_html.proofs.Gaining.{three_pieces}
+use Rattle.std.proofs.lemmas.Result.{on_ok_weaker}
+use Rattle.page_html.proofs.Gaining.{two_pieces}
+use Rattle.page_summary.specs.Findings.{counts, heading, is_first_row}
 use Rattle.page_summary.proofs.findings.push_counted_findings.Goals as goal
 
 pub returns : goal.returns
 returns c =
-    let s0 = string_bytes c.args.page.now in
-    let s1 = string_bytes c.push_str.new.self in
-    let s2 = string_bytes c.push_levels.new.page in
-    let s3 = string_bytes c.push_rules.new.page in
-    three_pieces s0 s1 s2 s3
-    (codes "<h3>What stands out</h3>\n<p>") (levels c.args.rows.now) rules_words
-    c.in_ok-push_str.ensures.bytes c.in_ok-push_levels.ensures c.in_ok-push_rules.ensures
+    let rows = c.args.rows.now in
+    let begun = string_bytes c.push_element.new.page in
+    let first = count_by is_first_row rows in
+    on_ok_weaker c.push_element-2.result
+    (λ added. two_pieces (string_bytes c.args.page.now) begun (string_bytes c.push_element-2.new.page) heading (counts first (length rows - first))
+    c.in_ok-push_element.ensures
+    (added ∙ ap (λ n. begun ++ counts n (length rows - n)) c.count_first-first.ensures))
+    c.push_element-2.ensures
