@@ -1,4 +1,5 @@
 mod Celled
+mod Cells
 mod InForce
 mod Lined
 mod Between

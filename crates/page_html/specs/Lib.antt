@@ -11,7 +11,6 @@ pub mod Tables
 pub mod Titles
 pub mod Amounts
 pub mod Escaping
-pub mod Facts
 pub mod TextLaws
 pub mod Numbers
 pub mod Pieces

@@ -1,6 +1,5 @@
 -- The parts as the program lends them: `&'static str` is a word of the page's own, and each other text is a site's. (this project's own)
 use Rattle.std.specs.Prelude.{ℕ, List, map}
-use Rattle.std.specs.String.{string_bytes}
 use Rattle.desk_text.specs.Address.{number_of}
 use Rattle.page_html.specs.Images.{image_html}
 use Rattle.page_html.specs.Items.{Item, Words, Strong, Zero, Small, Word, Badge, Level, Link, Nothing, Space, Break, NewLine, Number, Digits, Plural, PartOf, AndMore, SmallCount, SmallPlural, SmallPercent, LineLink, Drawn, Network, Range, Ranges, Terms, Flavours, FlavourNames, Own, Text, Code, Digest, Codes, SomeCodes, Line, System, SystemLine}
