@@ -99,10 +99,7 @@ fn push_members<'a>(
     let (named, others) = paths.split_at(most.min(paths.len()));
     push_names(named, title)?;
     title.push(Title::Further(others.len() as u64))?;
-    title.push(Title::Said(others_words(
-        members.has_others,
-        paths.is_empty(),
-    )))?;
+    title.push(Title::Said(others_words(members.has_others, paths.is_empty())))?;
     Ok(())
 }
 
