@@ -76,7 +76,7 @@ ul.d{list-style:none;margin:0 0 .5rem;padding:0;font-size:.875rem;color:var(--mu
 ul.mine,ul.legend{list-style:none;padding:0;margin:.5rem 0 1rem}
 ul.legend{display:flex;flex-wrap:wrap;gap:.35rem 1.4rem;font-size:.875rem}
 .b{display:inline-block;padding:0 .45em;border:1.5px solid currentColor;border-radius:4px;font-size:.8125rem;line-height:1.45;font-weight:600;white-space:nowrap}
-dl.facts .b{display:inline}
+dl.facts .b,table.p .b{display:inline}
 .b.n{color:var(--mute);font-weight:400}
 .b.o{color:var(--ro)}
 .b.w{color:var(--rwt)}
