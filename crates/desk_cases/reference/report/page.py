@@ -117,7 +117,7 @@ def key_figures(report):
         ("Lines", len(report.lines), f"{plural(directories, 'directory', 'directories')} written"),
         ("Lines for everybody", len(everybody), f"{number(writable)} without -ro"),
         ("Lines that keep root", len(root), f"{number(not_named)} for networks or everybody"),
-        ("Lines without effect", len(report.lines) - len(report.granting()), "they grant nothing"),
+        ("Lines without effect", len(report.lines) - len(report.granting()), "they grant nothing; not counted in the two before"),
         ("Warnings", len(report.warnings), "about words"),
         ("Proposals", len(report.desk.proposals), "not in force"),
     ]

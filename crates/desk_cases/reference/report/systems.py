@@ -21,6 +21,11 @@ OPEN_LINES, MOST_DRAWN, MOST_GROUPS = 40, 12, 100
 # denial apart, networks in the table of shares, and lines whose denials mountd(8) does not keep.
 MOST_NAMES, MOST_CAPTION, MOST_DECIDING, MOST_REASONS, MOST_SHARES, MOST_OPENINGS = 8, 3, 6, 5, 12, 6
 OTHERS = "other directories"
+# What does not matter to a client.
+SILENT = (
+    "of lines or reasons alone: the same clients may mount the same on the same terms, and only the line that grants it, or the reason"
+    " of a denial, is another"
+)
 
 
 def file_of(system):
@@ -286,7 +291,7 @@ def changes_block(before, after):
     if rows:
         made = table("What it would change", ["Directory", "Clients", "Addresses#", "Now", "Then"], rows, "i")
         made = folded_if_long(made, len(rows), plural(len(rows), "change"))
-    return made + (f"<p>{plural(silent, 'change')} of lines or reasons alone.</p>\n" if silent else "")
+    return made + (f"<p>{plural(silent, 'change')} {SILENT}.</p>\n" if silent else "")
 
 
 def change_row(are_others, place, first, last, verdicts):
