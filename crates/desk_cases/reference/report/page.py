@@ -16,8 +16,8 @@ from reference.report.maps import small_map
 from reference.report.pieces import cut, folded, folded_if_long, level_mark, line_link, ranges_cell, system_link, table, zero
 from reference.report.systems import file_of, finding_words, network_of, system_section, widest_first
 from reference.report.text import (
-    CLASS_WORDS, and_more, class_badge, code, codes, count_words, escaped, escaped_attribute, escaped_line, flavour_words,
-    network_text, number, part_words, plural, shell_word,
+    and_more, class_badge, class_parts, code, codes, escaped, escaped_attribute, escaped_line, flavour_words, network_text, number,
+    part_words, plural, shell_word,
 )  # fmt: skip
 from reference.sarif import RULES
 from reference.warnings import NAMES, site_warnings
@@ -117,7 +117,7 @@ def key_figures(report):
         ("Lines", len(report.lines), f"{plural(directories, 'directory', 'directories')} written"),
         ("Lines for everybody", len(everybody), f"{number(writable)} without -ro"),
         ("Lines that keep root", len(root), f"{number(not_named)} for networks or everybody"),
-        ("Lines without effect", len(report.lines) - len(report.granting()), "they grant nothing"),
+        ("Lines without effect", len(report.lines) - len(report.granting()), "they grant nothing; not counted in the two before"),
         ("Warnings", len(report.warnings), "about words"),
         ("Proposals", len(report.desk.proposals), "not in force"),
     ]
@@ -235,9 +235,9 @@ def network_row(report, first, prefix):
         found = counts(system.classes, *network_ends(first, prefix))
         values = [value for value in (3, 2, 1) if found[value]]
         if values and found[values[0]] == whole:
-            alike.append(f"{system_link(system)} {CLASS_WORDS[values[0]]}")
+            alike.append(f"{system_link(system)} {class_badge(values[0])}")
         elif values:
-            parts.append(f"{system_link(system)} {count_words(found)}")
+            parts.append(f"{system_link(system)} {class_parts(found)}")
     return [network_text(first, prefix), number(whole), systems_cell(alike, "; "), systems_cell(parts, "<br>")]
 
 

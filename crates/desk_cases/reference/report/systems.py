@@ -10,8 +10,8 @@ from reference.report.data import (
 from reference.report.maps import figures
 from reference.report.pieces import box, cut, folded, folded_if_long, level_mark, line_link, ranges_cell, table, zero
 from reference.report.text import (
-    and_more, class_badge, code, codes, escaped, escaped_line, network_text, number, part_words, percent, plural, range_text,
-    terms_badge, terms_words,
+    and_more, class_badge, class_parts, code, codes, escaped, escaped_line, network_text, number, part_words, percent, plural,
+    range_text, terms_badge, terms_words,
 )  # fmt: skip
 from reference.why import named_line
 
@@ -21,6 +21,11 @@ OPEN_LINES, MOST_DRAWN, MOST_GROUPS = 40, 12, 100
 # denial apart, networks in the table of shares, and lines whose denials mountd(8) does not keep.
 MOST_NAMES, MOST_CAPTION, MOST_DECIDING, MOST_REASONS, MOST_SHARES, MOST_OPENINGS = 8, 3, 6, 5, 12, 6
 OTHERS = "other directories"
+# What does not matter to a client.
+SILENT = (
+    "of lines or reasons alone: the same clients may mount the same on the same terms, and only the line that grants it, or the reason"
+    " of a denial, is another"
+)
 
 
 def file_of(system):
@@ -286,7 +291,7 @@ def changes_block(before, after):
     if rows:
         made = table("What it would change", ["Directory", "Clients", "Addresses#", "Now", "Then"], rows, "i")
         made = folded_if_long(made, len(rows), plural(len(rows), "change"))
-    return made + (f"<p>{plural(silent, 'change')} of lines or reasons alone.</p>\n" if silent else "")
+    return made + (f"<p>{plural(silent, 'change')} {SILENT}.</p>\n" if silent else "")
 
 
 def change_row(are_others, place, first, last, verdicts):
@@ -315,9 +320,8 @@ def facts(desk, system):
     name = file_of(system)
     guarded = "yes: a change of its exports needs two of them" if name in desk.guarded() else "no: each of them may change it alone"
     found = counts(system.classes, 0, SPACE - 1)
-    some = ", ".join(f"{class_badge(value)}&nbsp;{part_words(found[value])}" for value in (3, 2, 1) if found[value]) or "nobody"
     rows = [("In force", revision_words(desk, name)), ("Custodians", codes(desk.custodians(name))), ("Guarded", guarded)]
-    rows.append(("May mount some of it", some))
+    rows.append(("May mount some of it", class_parts(found)))
     made = "".join(f"<div><dt>{term}</dt><dd>{words}</dd></div>\n" for term, words in rows)
     return f'<dl class="facts">\n{made}</dl>\n'
 
