@@ -31,7 +31,7 @@ unfoldable pub rules_words : List ℕ
 rules_words = RULES.now
 
 abbrev pub counted_findings : List FindingRow → List ℕ
-counted_findings rows = codes "<h3>What stands out</h3>\n<p>" ++ levels rows ++ rules_words
+counted_findings rows = codes "<p>" ++ levels rows ++ rules_words
 
 -- a row: the level, where the line stands, why it stands out with its text, and to how many addresses it grants something
 abbrev pub level_head : Finding → List ℕ

@@ -37,7 +37,7 @@ pub fn push_counted_findings(
 ) -> Result<(), AllocError>
     ensures { OnOk result (string_bytes page.new ≡ string_bytes page.old ++ spec.counted_findings rows.now) }
 {
-    page.push_str("<h3>What stands out</h3>\n<p>")?;
+    page.push_str("<p>")?;
     push_levels(alloc, rows, page)?;
     push_rules(page)?;
     Ok(())

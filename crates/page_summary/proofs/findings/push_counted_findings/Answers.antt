@@ -11,5 +11,5 @@ returns c =
     let s2 = string_bytes c.push_levels.new.page in
     let s3 = string_bytes c.push_rules.new.page in
     three_pieces s0 s1 s2 s3
-    (codes "<h3>What stands out</h3>\n<p>") (levels c.args.rows.now) rules_words
+    (codes "<p>") (levels c.args.rows.now) rules_words
     c.in_ok-push_str.ensures.bytes c.in_ok-push_levels.ensures c.in_ok-push_rules.ensures
