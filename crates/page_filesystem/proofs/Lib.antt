@@ -1,4 +1,3 @@
-mod Celled
 mod Cells
 mod InForce
 mod Lined

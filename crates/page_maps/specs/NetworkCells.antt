@@ -3,9 +3,9 @@ use Rattle.std.specs.Prelude.{ℕ, ◌==◌, List, [], ◌∷◌, ◌++◌, code
 use Rattle.desk_policy.specs.Policy.{Content}
 use Rattle.desk_policy.specs.Prints.{mount_text}
 use Rattle.page_html.specs.Items.{Break, Item, Own, Plural, System, Words, Zero}
-use Rattle.page_findings.specs.Badges.{class_words, measured_items}
+use Rattle.page_findings.specs.Badges.{badge_item, measured_items}
 use Rattle.page_findings.specs.Joining.{joined}
-use Rattle.page_findings.specs.declared.badges.Measure.TheVariants.{Count}
+use Rattle.page_findings.specs.declared.badges.Measure.TheVariants.{Share}
 use Rattle.page_maps.specs.declared.networks.SystemClass.{SystemClass}
 use Rattle.page_maps.specs.declared.networks.SystemCounts.{SystemCounts}
 
@@ -29,14 +29,14 @@ link content fs = System fs (mount_text content fs)
 
 -- a file system, and what all addresses may there, and what stands between two of them
 abbrev pub alike : Content → SystemClass → List (Item (List ℕ))
-alike content one = link content one.fs.0 ∷ Own (Words (codes " ")) ∷ Own (Words (class_words one.class)) ∷ []
+alike content one = link content one.fs.0 ∷ Own (Words (codes " ")) ∷ badge_item one.class ∷ []
 
 abbrev pub semicolon : Item (List ℕ)
 semicolon = Own (Words (codes "; "))
 
 -- a file system, and how many addresses may what there, and what stands between two of them
 abbrev pub counted : Content → SystemCounts → List (Item (List ℕ))
-counted content one = link content one.fs.0 ∷ Own (Words (codes " ")) ∷ measured_items Count one.counts
+counted content one = link content one.fs.0 ∷ Own (Words (codes " ")) ∷ measured_items Share one.counts
 
 abbrev pub line_break : Item (List ℕ)
 line_break = Own Break

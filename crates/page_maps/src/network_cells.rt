@@ -2,14 +2,12 @@
 
 ghost use Rattle.std.specs.Prelude.{◌≡◌, ◌++◌, ◌∷◌, IfOk, OnOk, map};
 ghost use Rattle.std.specs.List.{flat_map};
-ghost use Rattle.page_findings.specs.Badges.{class_words};
 ghost use Rattle.page_html.specs.Parts.{item_of};
 ghost use Rattle.page_maps.specs.NetworkCells as spec;
 
 use crate::networks::{SystemClass, SystemCounts};
 use desk_policy::{Policy, mount_text};
-use page_data::Class;
-use page_findings::{Measure, measured};
+use page_findings::{Measure, badge_part, measured};
 use page_html::Part;
 use std::alloc::{AllocError, Global};
 
@@ -71,20 +69,8 @@ fn alike<'a>(policy: &'a Policy, one: &SystemClass) -> [Part<'a>; 3]
     [
         Part::System(one.fs, mount_text(policy, one.fs)),
         Part::Words(" "),
-        Part::Words(class_words(one.class)),
+        badge_part(one.class),
     ]
-}
-
-/// Returns the words for a class.
-fn class_words(class: Class) -> &'static str
-    ensures { result.now ≡ class_words class }
-{
-    match class {
-        Class::Denied => "denied",
-        Class::ReadOnly => "read-only",
-        Class::ReadWrite => "read-write",
-        Class::RootKept => "root kept",
-    }
 }
 
 /// Gathers the file systems on which they do not all may the same.
@@ -146,7 +132,7 @@ fn push_counted<'a>(
 ) -> Result<(), AllocError>
     ensures { OnOk result (map item_of parts.new.items ≡ map item_of parts.old.items ++ spec.counted policy.now one.now) }
 {
-    let counts = measured(alloc, Measure::Count, &one.counts)?;
+    let counts = measured(alloc, Measure::Share, &one.counts)?;
     let link = [
         Part::System(one.fs, mount_text(policy, one.fs)),
         Part::Words(" "),

@@ -60,7 +60,7 @@ mattering rows =
 
 -- those of lines or reasons alone
 abbrev pub silent_items : ℕ → List (Item (List ℕ))
-silent_items count = Own (Plural count (codes "change") (codes "changes")) ∷ Own (Words (codes " of lines or reasons alone.")) ∷ []
+silent_items count = Own (Plural count (codes "change") (codes "changes")) ∷ Own (Words (codes " of lines or reasons alone: the same clients may mount the same on the same terms, and only the line that grants it, or the reason of a denial, is another.")) ∷ []
 
 abbrev pub silent_words : ℕ → List ℕ
 silent_words count = if count == 0 then [] else element_html Paragraph (silent_items count)

@@ -68,7 +68,9 @@ fn push_silent(alloc: Global, count: u64, page: &mut String) -> Result<(), Alloc
     }
     let parts = [
         Part::Plural(count, "change", "changes"),
-        Part::Words(" of lines or reasons alone."),
+        Part::Words(
+            " of lines or reasons alone: the same clients may mount the same on the same terms, and only the line that grants it, or the reason of a denial, is another.",
+        ),
     ];
     push_element(alloc, Element::Paragraph, &parts, page)
 }

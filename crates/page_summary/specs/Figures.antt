@@ -26,7 +26,7 @@ facts counted =
     ∷ figure counted.lines (SmallPlural counted.directories (codes "directory written") (codes "directories written"))
     ∷ figure counted.for_everybody (SmallCount counted.writable (codes "without -ro"))
     ∷ figure counted.root_kept (SmallCount counted.root_for_many (codes "for networks or everybody"))
-    ∷ figure counted.idle (Small (codes "they grant nothing"))
+    ∷ figure counted.idle (Small (codes "they grant nothing; not counted in the two before"))
     ∷ figure counted.warnings (Small (codes "about words"))
     ∷ figure counted.proposals (Small (codes "not in force")) ∷ []
 

@@ -4,7 +4,7 @@ use Rattle.page_html.specs.Blocks.{element_html, tag_html}
 use Rattle.page_html.specs.Items.{Break, Item, Line, LineLink, Link, Number, Own, PartOf, Plural, System, Words}
 use Rattle.page_html.specs.Tables.{Count, Frame, Name, Plain, rows_html, table_start}
 use Rattle.page_html.specs.Titles.{Said}
-use Rattle.page_html.specs.declared.blocks.Element.TheVariants.{Fold, Heading, Paragraph}
+use Rattle.page_html.specs.declared.blocks.Element.TheVariants.{Fold, Paragraph}
 use Rattle.page_html.specs.declared.blocks.Tag.TheVariants.{FoldEnd, TableEnd}
 use Rattle.page_findings.specs.FindingWords.{finding_items}
 use Rattle.page_findings.specs.Badges.{level_item}
@@ -16,9 +16,6 @@ abbrev pub is_first_row : FindingRow → Bool
 is_first_row row = is_first_level (level_of_all row.finding.reasons.now)
 
 -- how many lines are to be looked at first, and how many are to be checked; and what is said of the rules by which lines stand out
-abbrev pub heading : List ℕ
-heading = element_html Heading (Own (Words (codes "What stands out")) ∷ [])
-
 abbrev pub counts : ℕ → ℕ → List ℕ
 counts first others =
     element_html Paragraph
@@ -27,7 +24,7 @@ counts first others =
     ∷ Own (Words (codes "); what the site intends they do not know.")) ∷ [])
 
 abbrev pub counted_findings : List FindingRow → List ℕ
-counted_findings rows = heading ++ counts (count_by is_first_row rows) (length rows - count_by is_first_row rows)
+counted_findings rows = counts (count_by is_first_row rows) (length rows - count_by is_first_row rows)
 
 -- the table of lines that stand out, and that of more of them
 abbrev pub findings_frame : Frame

@@ -8,6 +8,7 @@ pub mod Adding
 pub mod Files
 pub mod KeyFigures
 pub mod FindingRows
+pub mod Proposals
 pub mod FlavoursRows
 pub mod Reaching
 pub mod SystemRows

@@ -76,7 +76,7 @@ pub fn push_figures(alloc: Global, figures: &Figures, page: &mut String) -> Resu
         &[
             Part::Number(figures.idle),
             Part::Words(" "),
-            Part::Small("they grant nothing"),
+            Part::Small("they grant nothing; not counted in the two before"),
         ],
         &[
             Part::Number(figures.warnings),

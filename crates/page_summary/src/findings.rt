@@ -63,12 +63,6 @@ pub fn push_counted_findings(
     let first = count_first(rows);
     push_element(
         alloc,
-        Element::Heading,
-        &[Part::Words("What stands out")],
-        page,
-    )?;
-    push_element(
-        alloc,
         Element::Paragraph,
         &[
             Part::Plural(first as u64, "line", "lines"),

@@ -14,7 +14,7 @@ from reference.report.data import (
 )  # fmt: skip
 from reference.report.maps import small_map
 from reference.report.pieces import cut, folded, folded_if_long, level_mark, line_link, ranges_cell, system_link, table, zero
-from reference.report.systems import file_of, finding_words, network_of, system_section, widest_first
+from reference.report.systems import file_of, finding_words, network_of, system_section, widening, widest_first
 from reference.report.text import (
     and_more, class_badge, class_parts, code, codes, escaped, escaped_attribute, escaped_line, flavour_words, network_text, number,
     part_words, plural, shell_word,
@@ -132,8 +132,21 @@ def summary(report):
     counted = f"{plural(levels.count(FIRST), 'line')} to look at first, {number(levels.count(CHECK))} to check."
     rules = 'These are fixed rules over the lines (<a href="#read">below</a>); what the site intends they do not know.'
     made = f'<section id="summary">\n<h2>Summary</h2>\n<dl class="big">\n{figures}</dl>\n'
-    made += f"<h3>What stands out</h3>\n<p>{counted} {rules}</p>\n"
+    made += f"<h3>What stands out</h3>\n{proposals_list(report)}<p>{counted} {rules}</p>\n"
     return made + findings_tables(report) + flavours_table(report) + "</section>\n"
+
+
+def proposals_list(report):
+    """The proposals by which clients may do more, in the order of the file systems."""
+    counted = [(system, widening(report.desk, system)) for system in report.systems]
+    items = "".join(proposal_item(report.desk, system, count) for system, count in counted if count)
+    return f'<ul class="mine">{items}</ul>\n' if items else ""
+
+
+def proposal_item(desk, system, count):
+    author, _ = desk.proposals[file_of(system)]
+    words = f"{code(author)} proposes that clients may do more: {plural(count, 'change')}"
+    return f"<li>{level_mark(FIRST)} {system_link(system)}: {words}</li>\n"
 
 
 def findings_tables(report):

@@ -5,7 +5,7 @@ from reference.idle import is_for_all
 from reference.lines import logical_lines, physical_lines, words_of
 from reference.readings import Fault, read_site
 from reference.report.data import (
-    GRANTS_MORE, LEFT_OUT, PRIVATE, SPACE, FileSystem, changed_places, classes_of, counts, network_ends, size_of,
+    GRANTS_MORE, LEFT_OUT, PRIVATE, SPACE, FileSystem, changed_places, class_of, classes_of, counts, network_ends, size_of,
 )  # fmt: skip
 from reference.report.maps import figures
 from reference.report.pieces import box, cut, folded, folded_if_long, level_mark, line_link, ranges_cell, table, zero
@@ -239,6 +239,26 @@ def share_row(system, name, ranges):
 # ---- a proposal
 
 
+def foreseen(desk, system):
+    """The file system with what is proposed for it, or none and the fault of the site with that."""
+    texts = {**desk.texts, file_of(system): desk.proposals[file_of(system)][1]}
+    try:
+        site = read_site(texts)
+    except Fault as fault:
+        return None, str(fault)
+    found = ((mount, contradiction(site, mount)) for mount in site.mounts)
+    fault = next((fault_text(mount, fault) for mount, fault in found if fault), "")
+    return (None, fault) if fault else (FileSystem(site, system.number), "")
+
+
+def widening(desk, system):
+    """By how many changes of a proposal clients may do more: those at which the class is greater than now."""
+    after = foreseen(desk, system)[0] if file_of(system) in desk.proposals else None
+    places = changed_places(system, after) if after else []
+    found = [verdicts for place in places for _, _, verdicts in changes(system.site, after.site, place)]
+    return sum(class_of(effect(then)) > class_of(effect(now)) for now, then in found)
+
+
 def proposal_block(desk, system):
     """The text that waits, with the lines of it that are not in force, and what it would change for whom."""
     if file_of(system) not in desk.proposals:
@@ -249,23 +269,13 @@ def proposal_block(desk, system):
     made = '<section class="wait">\n<h4>A proposal waits</h4>\n'
     made += f"<p>{code(author)} proposes this text as revision {revision}. It is not in force{approval}.</p>\n"
     made += proposed_text(system, desk.texts.get(file_of(system), ""), text)
-    return made + outcome_block(system, {**desk.texts, file_of(system): text}) + "</section>\n"
+    return made + outcome_block(desk, system) + "</section>\n"
 
 
-def outcome_block(system, texts):
-    """What a proposal would change, given the texts of the site with it; or the fault of these, to which a proposal comes if another
-    file changes while it waits."""
-    try:
-        site = read_site(texts)
-    except Fault as fault:
-        return refused(str(fault))
-    found = ((mount, contradiction(site, mount)) for mount in site.mounts)
-    fault = next((fault_text(mount, fault) for mount, fault in found if fault), "")
-    return refused(fault) if fault else changes_block(system, FileSystem(site, system.number))
-
-
-def refused(fault):
-    return f"<p>It cannot be put in force now: {code(fault)}.</p>\n"
+def outcome_block(desk, system):
+    """What a proposal would change; or the fault of the site with it, to which a proposal comes if another file changes while it waits."""
+    after, fault = foreseen(desk, system)
+    return changes_block(system, after) if after else f"<p>It cannot be put in force now: {code(fault)}.</p>\n"
 
 
 def proposed_text(system, old, text):
