@@ -1,9 +1,9 @@
 //! The facts of a file system.
 
-ghost use Rattle.std.specs.Prelude.{◌≡◌, ◌++◌, ◌∷◌, [], IfOk, OnOk, map};
+ghost use Rattle.std.specs.Prelude.{◌≡◌, ◌++◌, IfOk, OnOk, map};
 ghost use Rattle.std.specs.Option.{option_copied};
 ghost use Rattle.std.specs.String.{string_bytes};
-ghost use Rattle.page_html.specs.Parts.{item_of, items_of};
+ghost use Rattle.page_html.specs.Parts.{item_of};
 ghost use Rattle.page_filesystem.specs.Facts as spec;
 
 use desk_core::Head;
@@ -11,7 +11,7 @@ use desk_exports::Profile;
 use desk_text::Text;
 use page_data::Counts;
 use page_findings::{Measure, measured};
-use page_html::{Column, Frame, Part};
+use page_html::{Column, Frame, Part, four_cells};
 use std::alloc::{AllocError, Global};
 
 /// The facts.
@@ -51,18 +51,6 @@ pub fn push_facts(
         ),
         page,
     )
-}
-
-/// Makes a row of four cells.
-fn four_cells<'a>(
-    first: &'a [Part<'a>],
-    second: &'a [Part<'a>],
-    third: &'a [Part<'a>],
-    fourth: &'a [Part<'a>],
-) -> [&'a [Part<'a>]; 4]
-    ensures { map (λ cell. items_of cell.now) result ≡ items_of first.now ∷ items_of second.now ∷ items_of third.now ∷ items_of fourth.now ∷ [] }
-{
-    [first, second, third, fourth]
 }
 
 /// Gathers what is said of the newest revision of a file.

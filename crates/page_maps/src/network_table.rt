@@ -15,7 +15,8 @@ use crate::networks::{NetworkRow, network_rows};
 use desk_policy::Policy;
 use page_data::FileSystemReport;
 use page_html::{
-    Column, Element, Frame, Part, Tag, Title, push_element, push_row, push_table_start, push_tag,
+    Column, Element, Frame, Part, Tag, Title, four_cells, push_element, push_row, push_table_start,
+    push_tag,
 };
 use std::alloc::{AllocError, Global};
 
@@ -132,13 +133,17 @@ fn push_network(
 {
     let alike = alike_parts(alloc, policy, row.alike.as_slice())?;
     let mixed = mixed_parts(alloc, policy, row.parts.as_slice())?;
-    let cells: [&[Part<'_>]; 4] = [
-        &[network_part(row.network)],
-        &[Part::Number(size_of(row.network))],
-        alike.as_slice(),
-        mixed.as_slice(),
-    ];
-    push_row(alloc, &NETWORKS, &cells, page)
+    push_row(
+        alloc,
+        &NETWORKS,
+        &four_cells(
+            &[network_part(row.network)],
+            &[Part::Number(size_of(row.network))],
+            alike.as_slice(),
+            mixed.as_slice(),
+        ),
+        page,
+    )
 }
 
 /// Adds how many networks are not listed, if there are any.

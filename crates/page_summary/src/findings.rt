@@ -1,15 +1,16 @@
 //! The lines of the site that stand out.
 
-ghost use Rattle.std.specs.Prelude.{◌≡◌, ◌++◌, ◌∷◌, [], IfOk, OnOk, count_by, length, map};
+ghost use Rattle.std.specs.Prelude.{◌≡◌, ◌++◌, IfOk, OnOk, count_by, length, map};
 ghost use Rattle.std.specs.String.{string_bytes};
-ghost use Rattle.page_html.specs.Parts.{item_of, items_of};
+ghost use Rattle.page_html.specs.Parts.{item_of};
 ghost use Rattle.page_html.specs.Tables.{frame_of, row_html, rows_html};
 ghost use Rattle.page_summary.specs.Findings as spec;
 
 use page_data::Level;
 use page_findings::{Finding, finding_parts, level_part};
 use page_html::{
-    Column, Element, Frame, Part, Tag, Title, push_element, push_row, push_table_start, push_tag,
+    Column, Element, Frame, Part, Tag, Title, four_cells, push_element, push_row, push_table_start,
+    push_tag,
 };
 use std::alloc::{AllocError, Global};
 
@@ -210,18 +211,6 @@ fn push_finding(
         page,
     )?;
     Ok(())
-}
-
-/// Makes a row of four cells.
-fn four_cells<'a>(
-    first: &'a [Part<'a>],
-    second: &'a [Part<'a>],
-    third: &'a [Part<'a>],
-    fourth: &'a [Part<'a>],
-) -> [&'a [Part<'a>]; 4]
-    ensures { map (λ cell. items_of cell.now) result ≡ items_of first.now ∷ items_of second.now ∷ items_of third.now ∷ items_of fourth.now ∷ [] }
-{
-    [first, second, third, fourth]
 }
 
 /// Gathers why a line stands out, and the line as written.

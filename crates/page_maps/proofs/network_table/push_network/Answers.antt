@@ -14,7 +14,7 @@ returns c =
     let content = c.args.policy.now in
     on_ok_weaker c.push_row.result
     (λ added. added ∙ ap (λ cells. string_bytes c.args.page.now ++ row_html frame cells)
-    (item_before _ _ _ _ (ap (λ item. item ∷ []) c.network_part.ensures)
+    (c.four_cells.ensures ∙ item_before _ _ _ _ (ap (λ item. item ∷ []) c.network_part.ensures)
     (item_before _ _ _ _ (ap (λ n. Own (Number n) ∷ []) c.size_of.ensures)
     (item_before _ _ _ _ (ap (map item_of) c.as_slice-3.ensures.value ∙ c.in_ok-alike.ensures ∙ ap (alike_cell content) c.as_slice.ensures)
     (item_before _ _ _ _ (ap (map item_of) c.as_slice-4.ensures.value ∙ c.in_ok-mixed.ensures ∙ ap (mixed_cell content) c.as_slice-2.ensures)
