@@ -80,11 +80,15 @@ fn push_approver(approver: &Option<Text>, text: &mut String) -> Result<(), Alloc
 {
     match approver {
         None => Ok(()),
-        Some(name) => {
-            let name = name.as_str();
-            write!(text, " approved by {name}")
-        }
+        Some(name) => push_approved(name.as_str(), text),
     }
+}
+
+/// Adds who approved a revision.
+fn push_approved(name: &str, text: &mut String) -> Result<(), AllocError>
+    ensures { OnOk result (string_bytes text.new ≡ string_bytes text.old ++ spec.approved_by name.now) }
+{
+    write!(text, " approved by {name}")
 }
 
 /// Adds by which profile an exports file is read.
