@@ -13,9 +13,9 @@ loop-path-preserved c =
     let now = titles_of c.loop-path.title.items in
     let path = c.path-item.result in
     gathers_values (λ (one : Bor (List (List ℕ))). one.now) c.args.paths.now c.loop-path.path-index path later (titles_of c.args.title.now.items) now
-    (titles_of c.push-2.new.self.items) c.loop-path-test.true c.loop-path.invariant
-    (two_more title_of c.loop-path.title.items c.push.new.self.items c.push-2.new.self.items _ _ (Said (codes ", ")) (Named (path_text path.now))
-    c.in_ok-push.ensures.items c.in_ok-push-2.ensures.items refl (ap Named c.text.ensures)
+    (titles_of c.push-in-loop-path.new.self.items) c.loop-path-test.true c.loop-path.invariant
+    (two_more title_of c.loop-path.title.items c.push.new.self.items c.push-in-loop-path.new.self.items _ _ (Said (codes ", ")) (Named (path_text path.now))
+    c.in_ok-push.ensures.items c.in_ok-push-2.ensures.items refl (ap Named c.text.ensures.printed)
     ∙ ap (λ (one : Bor (List (List ℕ))). now ++ later one.now) c.path-item.is)
 
 pub returns : goal.returns

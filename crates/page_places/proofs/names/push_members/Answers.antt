@@ -23,7 +23,7 @@ returns c =
     ap length (c.split_at.ensures.back ∙ ap (λ n. drop n paths) c.min.ensures ∙ drop_min most paths ∙ ap (drop most) is)
     ∙ sym (ap length (drop-map at most all) ∙ length-map (drop most all) at) in
     let alone : c.others_words.result.now ≡ others_words has_others (length (paths_in all) == 0) =
-    c.others_words.ensures ∙ ap (λ (some : List (Bor (List (List ℕ)))). others_words has_others (length some == 0)) is
+    c.others_words.ensures ∙ ap (others_words has_others) c.is_empty.ensures ∙ ap (λ (some : List (Bor (List (List ℕ)))). others_words has_others (length some == 0)) is
     ∙ ap (λ n. others_words has_others (n == 0)) (sym (length-map all at)) in
     let behind : List (Title (List ℕ)) = Further (length (drop most (paths_in all))) ∷ Said (others_words has_others (length (paths_in all) == 0)) ∷ [] in
     two_more title_of c.push_names.new.title.items c.push.new.self.items c.push-2.new.self.items _ _ _ _
