@@ -52,11 +52,14 @@ abbrev pub changes_folded : List ChangeRow → List ℕ
 changes_folded rows =
     element_html Fold (Own (Plural (length rows) (codes "change") (codes "changes")) ∷ []) ++ change_table rows ++ tag_html FoldEnd
 
+abbrev pub some_changes : List ChangeRow → List ℕ
+some_changes rows = if nat_le (length rows) 24 then change_table rows else changes_folded rows
+
+abbrev pub no_change : List ℕ
+no_change = element_html Paragraph (Own (Words (codes "It would change nothing for any client.")) ∷ [])
+
 abbrev pub mattering : List ChangeRow → List ℕ
-mattering rows =
-    if length rows == 0 then element_html Paragraph (Own (Words (codes "It would change nothing for any client.")) ∷ [])
-    else if nat_le (length rows) 24 then change_table rows
-    else changes_folded rows
+mattering rows = if length rows == 0 then no_change else some_changes rows
 
 -- those of lines or reasons alone
 abbrev pub silent_items : ℕ → List (Item (List ℕ))

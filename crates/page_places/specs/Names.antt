@@ -73,7 +73,8 @@ folded paths =
     element_html Fold (more_directories (length paths) ∷ []) ++ element_html Names (map shown (names paths)) ++ tag_html FoldEnd
 
 abbrev pub left_out : List (List (List ℕ)) → List ℕ
-left_out paths = if length paths == 0 then [] else folded paths
+left_out [] = []
+left_out (first ∷ others) = folded (first ∷ others)
 
 -- the heading of a group, and the names that it leaves out
 abbrev pub heading : MembersValue → List ℕ

@@ -75,7 +75,7 @@ fn push_silent(alloc: Global, count: u64, page: &mut String) -> Result<(), Alloc
     push_element(alloc, Element::Paragraph, &parts, page)
 }
 
-/// Adds the changes that matter, folded if they are many, or that there are none.
+/// Adds the changes that matter, or that there are none.
 fn push_mattering(
     alloc: Global,
     rows: &[ChangeRow<'_>],
@@ -87,6 +87,17 @@ fn push_mattering(
         let words = [Part::Words("It would change nothing for any client.")];
         return push_element(alloc, Element::Paragraph, &words, page);
     }
+    push_some_changes(alloc, rows, page)
+}
+
+/// Adds changes, folded if they are many.
+fn push_some_changes(
+    alloc: Global,
+    rows: &[ChangeRow<'_>],
+    page: &mut String,
+) -> Result<(), AllocError>
+    ensures { OnOk result (string_bytes page.new ≡ string_bytes page.old ++ spec.some_changes rows.now) }
+{
     if rows.len() <= OPEN_ROWS {
         return push_change_table(alloc, rows, page);
     }

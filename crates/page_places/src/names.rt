@@ -160,17 +160,20 @@ pub(crate) fn push_heading(
 fn push_left_out(alloc: Global, paths: &[&Path], page: &mut String) -> Result<(), AllocError>
     ensures { OnOk result (string_bytes page.new ≡ string_bytes page.old ++ spec.left_out (spec.paths_in paths.now)) }
 {
-    if paths.is_empty() {
-        return Ok(());
+    match paths {
+        [] => Ok(()),
+        [_, ..] => push_folded(alloc, paths, page),
     }
+}
+
+/// Adds names that are folded.
+fn push_folded(alloc: Global, paths: &[&Path], page: &mut String) -> Result<(), AllocError>
+    ensures { OnOk result (string_bytes page.new ≡ string_bytes page.old ++ spec.folded (spec.paths_in paths.now)) }
+{
     let mut names = Vec::new(alloc);
     push_names(paths, &mut names)?;
-    push_element(
-        alloc,
-        Element::Fold,
-        &[more_directories(paths.len() as u64)],
-        page,
-    )?;
+    let summary = [more_directories(paths.len() as u64)];
+    push_element(alloc, Element::Fold, &summary, page)?;
     push_shown(alloc, Element::Names, names.as_slice(), page)?;
     push_tag(Tag::FoldEnd, page)
 }

@@ -1,4 +1,5 @@
-use Rattle.std.proofs.Common.{◌≡◌, ◌++◌, ◌∙◌, ap, drop, map, sym}
+use Rattle.std.proofs.Common.{◌≡◌, ◌++◌, ◌∙◌, List, ap, drop, map, sym, ℕ}
+use Rattle.std.specs.Borrow.{Bor}
 use Rattle.std.specs.String.{string_bytes}
 use Rattle.std.proofs.lemmas.List.{drop-map, drop_min}
 use Rattle.std.proofs.lemmas.Result.{on_ok_weaker}
@@ -17,7 +18,7 @@ returns c =
     let one = string_bytes c.push_shown.new.page in
     let others : paths_in c.split_at.result.1.now ≡ drop 8 (paths_in all) =
     ap paths_in (c.split_at.ensures.back ∙ ap (λ n. drop n paths) c.min.ensures ∙ drop_min 8 paths ∙ ap (drop 8) c.as_slice-paths.ensures)
-    ∙ sym (drop-map (λ path. path.now) 8 all) in
+    ∙ sym (drop-map (λ (path : Bor (List (List ℕ))). path.now) 8 all) in
     on_ok_weaker c.push_left_out.result
     (λ added. two_pieces (string_bytes c.args.page.now) one (string_bytes c.push_left_out.new.page)
     (element_html PlaceHeading (map shown (group_words 8 members))) (left_out (drop 8 (paths_in all)))
