@@ -26,7 +26,7 @@ approved_by (Some name) = Own (Words (codes ", approved by ")) ∷ Code name ∷
 
 -- the profile, if it is the old one
 abbrev pub profile : Profile → Item (List ℕ)
-profile profile = if profile_number profile == 1 then Own (Words (codes ", of profile 1")) else Own Nothing
+profile given = if profile_number given == 1 then Own (Words (codes ", of profile 1")) else Own Nothing
 
 -- the newest revision of a file, as `revision 3 by ada, approved by bob`
 abbrev pub written : Head → List (Item (List ℕ))
@@ -40,8 +40,8 @@ revision (Some head) = written head
 
 -- whether a change needs two custodians
 abbrev pub guarded : Bool → Item (List ℕ)
-guarded guarded =
-    if guarded then Own (Words (codes "yes: a change of its exports needs two of them"))
+guarded is_guarded =
+    if is_guarded then Own (Words (codes "yes: a change of its exports needs two of them"))
     else Own (Words (codes "no: each of them may change it alone"))
 
 -- The facts of a file system: the newest revision of its file, who keeps that, whether it is guarded, and how many addresses may mount some

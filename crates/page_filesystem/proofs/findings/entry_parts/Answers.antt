@@ -12,7 +12,8 @@ pub returns : goal.returns
 returns c =
     let finding = c.args.finding.now in
     let words = finding_items finding in
+    let start = Own (Words (codes " ")) ∷ Own (LineLink finding.fs.0 finding.line) ∷ Own (Words (codes ": ")) ∷ [] in
     ap (map item_of) c.in_ok-extend_from_slice.ensures.items ∙ map-append item_of c.in_ok-parts.parts.items c.as_slice.result.now
     ∙ ap (λ ys. map item_of c.in_ok-parts.parts.items ++ ys) (ap (map item_of) c.as_slice.ensures.value ∙ c.in_ok-words.ensures)
     ∙ ap (λ ys. map item_of ys ++ words) c.in_ok-parts.ensures.items
-    ∙ ap (λ ys. ys ++ words) (before _ (level_item (level_of_all finding.reasons.now)) _ _ (c.level_part.ensures ∙ ap level_item c.level.ensures) refl)
+    ∙ ap (λ ys. ys ++ words) (before (item_of c.level_part.result) (level_item (level_of_all finding.reasons.now)) start start (c.level_part.ensures ∙ ap level_item c.level.ensures) refl)
