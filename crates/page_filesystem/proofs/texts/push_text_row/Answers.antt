@@ -2,7 +2,6 @@ use Rattle.std.proofs.Common.{◌++◌, ◌∙◌, ap, refl}
 use Rattle.std.specs.String.{string_bytes}
 use Rattle.std.proofs.lemmas.Result.{on_ok_weaker}
 use Rattle.page_html.specs.Tables.{line_row_html}
-use Rattle.page_filesystem.specs.Gutter.{stands_out}
 use Rattle.page_filesystem.specs.Texts.{frame, text_cells}
 use Rattle.page_filesystem.proofs.Cells.{before, part_before}
 use Rattle.page_filesystem.proofs.texts.push_text_row.Goals as goal
