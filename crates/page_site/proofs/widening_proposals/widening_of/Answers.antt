@@ -1,4 +1,5 @@
-use Rattle.std.proofs.Common.{[], arith, map, subst, sym}
+use Rattle.std.proofs.Common.{◌≡◌, ◌∙◌, [], ap, arith, length, map, subst, sym}
+use Rattle.desk_policy.specs.Policy.{Content}
 use Rattle.page_summary.specs.Proposals.{proposal_value}
 use Rattle.page_site.specs.WaitingProposals.{waiting_value}
 use Rattle.page_site.proofs.Widening.{AreToldFirst, told_all, told_more, told_none}
@@ -17,5 +18,8 @@ loop-place-preserved g c =
 
 pub returns : goal.returns
 returns g c =
-    told_all (g.V.PolicyView.in_force c.args.site.now.view.now) (map (waiting_value g.V.PolicyView.in_force) c.args.site.now.waiting.now) c.loop-place.place
-    (map proposal_value c.loop-place.rows.items) c.loop-place.invariant (omega (arith, c.loop-place.auto.place-end, c.loop-place-test.false))
+    let content = g.V.PolicyView.in_force c.args.site.now.view.now in
+    let many : length c.filesystems.result.now ≡ length content.table
+    = ap length (c.filesystems.ensures ∙ ap (λ (policy : Content). policy.table) c.policy.ensures) in
+    told_all content (map (waiting_value g.V.PolicyView.in_force) c.args.site.now.waiting.now) c.loop-place.place (map proposal_value c.loop-place.rows.items)
+    c.loop-place.invariant (omega (arith, many, c.loop-place.auto.place-end, c.loop-place-test.false))
