@@ -23,6 +23,8 @@ HOSTILE_MOUNTS = [
     "/tag\U000e0041\x1b[31mred",
     f"/{'long' * 60}",
 ]
+# How long the names of a site are, whose custodians have the longest names there are.
+LENGTHS, LONGEST = (10, 40, 200), 32
 # The name of the database, as `report` gets it; its folder has the part up to the slash.
 HOSTILE_NAME = f'"><b title=\'{SCRIPT}.db'
 
@@ -81,6 +83,50 @@ def hostile_lines(mount):
         f"{quoted(mount)} {image} -maproot=<svg/onload> <iframe> h\u202eost\n",
         f"{quote} {entity} -ro </td></tr></table> '\"no host\"><s>'\n",
         f"{quoted(mount + '/x' * 120)} -ro -sec=krb5p:sys -network 10.0.0.0/8\n",
+    ]
+
+
+def name_of(kind, length):
+    """A name of so many characters, with hyphens."""
+    return (kind + "-which-is-long" * 20)[:length]
+
+
+def named(folder):
+    """A site whose mount points, directories, hosts and netgroups have names of 10, 40 and 200 characters. Texts of all its file
+    systems wait, and that in force of the first was approved."""
+    hosts, groups = ([name_of(kind, length) for length in LENGTHS] for kind in ("host", "group"))
+    keepers = [name_of(kind, LONGEST) for kind in ("ann", "ben")]
+    mounts = ["/a", *(name_of("/volume", length) for length in LENGTHS)]
+    lines = {mount: named_lines(mount, " ".join(hosts), " ".join(groups)) for mount in mounts}
+    files = {
+        "custodians": "".join(f"{name} {digest(name)}\n" for name in ("site", *keepers)),
+        "filesystems": "".join(f"{mount} !guarded {' '.join(keepers)}\n" for mount in mounts),
+        "hosts": "".join(f"10.0.0.{number} {name}\n" for number, name in enumerate(hosts)),
+        "networks": "",
+        "passwd": "root:*:0:0::/root:/bin/sh\nnobody:*:65534:65534::/:/bin/sh\n",
+        "group": "nobody:*:65534:\n",
+        "netgroup": "".join(f"{name} (10.0.1.{number},,) {' '.join(groups[:number])}\n" for number, name in enumerate(groups)),
+        "exports": "".join(map("".join, lines.values())),
+    }
+    first, *others = mounts
+    edits = [(first, name, lines[first][1:]) for name in keepers] + [(mount, keepers[0], lines[mount][:-2]) for mount in mounts]
+    return write(folder, files, "".join(f"exports:{mount} {name} {escaped(''.join(text))}\n" for mount, name, text in edits))
+
+
+def named_lines(mount, hosts, groups):
+    """The lines of a file system: four addresses may not mount what all others may, and a quarter of a network may more."""
+    below = [name_of(f"{mount}/directory", length) for length in LENGTHS] if mount == "/a" else []
+    listed = " ".join([mount, *below])
+    return [
+        f"{mount} -alldirs -ro -sec=sys:krb5:krb5i:krb5p\n",
+        f"{mount} -network 192.168.1.0/30\n",
+        f"{listed} -maproot=0 {hosts}\n",
+        f"{mount} -ro -maproot=0 -network 10.64.0.0/10\n",
+        f"{listed} -ro -network 10.128.0.0/9\n",
+        f"{mount} {groups}\n",
+        *(f"{path} -network 172.16.{number}.0/24\n" for number, path in enumerate(below)),
+        f"{mount} -network 10.0.0.0/8\n",
+        f"{listed} -sec=krb5p -network 10.3.0.0/16\n",
     ]
 
 

@@ -1,3 +1,4 @@
+mod Cells
 mod InForce
 mod Lined
 mod Between

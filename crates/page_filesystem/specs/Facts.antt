@@ -1,18 +1,54 @@
--- The facts of a file system. (this project's own, over HTML)
-use Rattle.std.specs.Prelude.{ℕ, Bool, List, ◌++◌, Option, codes}
+-- The facts of a file system. (this project's own)
+use Rattle.std.specs.Prelude.{ℕ, ◌==◌, Bool, false, List, [], ◌∷◌, ◌++◌, Option, Some, None, codes, if◌then◌else◌}
 use Rattle.desk_core.specs.declared.head.Head.{Head}
+use Rattle.desk_exports.specs.Profile.{profile_number}
+use Rattle.desk_exports.specs.declared.profile.Profile.{Profile}
 use Rattle.page_data.specs.declared.counts.Counts.{Counts}
-use Rattle.page_html.specs.Facts.{guarded_fact, in_force, kept_by}
-use Rattle.page_findings.specs.Badges.{class_parts}
+use Rattle.page_html.specs.Blocks.{facts_html}
+use Rattle.page_html.specs.Items.{Code, Codes, Item, Nothing, Number, Own, Words}
+use Rattle.page_html.specs.Tables.{Fact, Frame}
+use Rattle.page_findings.specs.Badges.{measured_items}
+use Rattle.page_findings.specs.declared.badges.Measure.TheVariants.{Share}
 
--- who keeps the file, and whether it is guarded
-abbrev pub keeping : List (List ℕ) → Bool → List ℕ
-keeping custodians guarded = kept_by custodians ++ guarded_fact guarded
+-- the terms of the facts
+abbrev pub frame : Frame
+frame = record {
+  class = codes "facts";
+  is_titled = false;
+  columns =
+      Fact (codes "In force") ∷ Fact (codes "Custodians") ∷ Fact (codes "Guarded") ∷ Fact (codes "May mount some of it") ∷ [];
+}
 
--- how many addresses may mount some directory, and the end of the facts
-abbrev pub may_mount : Counts → List ℕ
-may_mount counts = codes "<div><dt>May mount some of it</dt><dd>" ++ class_parts counts ++ codes "</dd></div>\n</dl>\n"
+-- who approved a revision, if it needed that
+abbrev pub approved_by : Option (List ℕ) → List (Item (List ℕ))
+approved_by None = Own Nothing ∷ Own Nothing ∷ []
+approved_by (Some name) = Own (Words (codes ", approved by ")) ∷ Code name ∷ []
 
--- The facts of a file system.
+-- the profile, if it is the old one
+abbrev pub profile : Profile → Item (List ℕ)
+profile given = if profile_number given == 1 then Own (Words (codes ", of profile 1")) else Own Nothing
+
+-- the newest revision of a file, as `revision 3 by ada, approved by bob`
+abbrev pub written : Head → List (Item (List ℕ))
+written head =
+    Own (Words (codes "revision ")) ∷ Own (Number head.rev) ∷ Own (Words (codes " by ")) ∷ Code head.author ∷ approved_by head.approver
+    ++ profile head.profile ∷ []
+
+abbrev pub revision : Option Head → List (Item (List ℕ))
+revision None = Own (Words (codes "no revision")) ∷ []
+revision (Some head) = written head
+
+-- whether a change needs two custodians
+abbrev pub guarded : Bool → Item (List ℕ)
+guarded is_guarded =
+    if is_guarded then Own (Words (codes "yes: a change of its exports needs two of them"))
+    else Own (Words (codes "no: each of them may change it alone"))
+
+-- The facts of a file system: the newest revision of its file, who keeps that, whether it is guarded, and how many addresses may mount some
+-- directory.
+abbrev pub fact_cells : Option Head → List (List ℕ) → Bool → Counts → List (List (Item (List ℕ)))
+fact_cells head custodians is_guarded counts =
+    revision head ∷ (Codes custodians ∷ []) ∷ (guarded is_guarded ∷ []) ∷ measured_items Share counts ∷ []
+
 abbrev pub facts : Option Head → List (List ℕ) → Bool → Counts → List ℕ
-facts head custodians guarded counts = codes "<dl class=\"facts\">\n" ++ in_force head ++ keeping custodians guarded ++ may_mount counts
+facts head custodians is_guarded counts = facts_html frame (fact_cells head custodians is_guarded counts)

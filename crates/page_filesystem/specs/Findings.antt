@@ -1,26 +1,27 @@
--- What stands out of the lines of a file system. (this project's own, over HTML)
-use Rattle.std.specs.Prelude.{ℕ, ◌==◌, List, [], ◌++◌, codes, length, if◌then◌else◌}
+-- What stands out of the lines of a file system. (this project's own)
+use Rattle.std.specs.Prelude.{ℕ, ◌==◌, List, [], ◌∷◌, ◌++◌, codes, length, if◌then◌else◌}
 use Rattle.std.specs.List.{flat_map}
-use Rattle.page_html.specs.Pieces.{line_link}
-use Rattle.page_findings.specs.Badges.{level_mark}
-use Rattle.page_findings.specs.FindingWords.{finding_words}
+use Rattle.page_html.specs.Blocks.{element_html, tag_html}
+use Rattle.page_html.specs.Items.{Item, LineLink, Own, Words}
+use Rattle.page_html.specs.declared.blocks.Element.TheVariants.{Entry}
+use Rattle.page_html.specs.declared.blocks.Tag.TheVariants.{FindingsStart, ListEnd}
+use Rattle.page_findings.specs.Badges.{level_item}
+use Rattle.page_findings.specs.FindingWords.{finding_items}
 use Rattle.page_findings.specs.declared.finding_words.Finding.{Finding}
 use Rattle.page_data.specs.Reasons.{level_of_all}
 
--- the item of a line: its level, a link to it, and why it stands out
-abbrev pub item_start : Finding → List ℕ
-item_start finding =
-    codes "<li>" ++ level_mark (level_of_all finding.reasons.now) ++ codes " " ++ line_link finding.fs.0 finding.line ++ codes ": "
+-- the entry of a line: its level, a link to it, and why it stands out
+abbrev pub entry_items : Finding → List (Item (List ℕ))
+entry_items finding =
+    level_item (level_of_all finding.reasons.now) ∷ Own (Words (codes " ")) ∷ Own (LineLink finding.fs.0 finding.line) ∷ Own (Words (codes ": "))
+    ∷ finding_items finding
 
-abbrev pub item : Finding → List ℕ
-item finding = item_start finding ++ finding_words finding ++ codes "</li>\n"
+abbrev pub entry : Finding → List ℕ
+entry finding = element_html Entry (entry_items finding)
 
-unfoldable pub items : List Finding → List ℕ
-items findings = flat_map item findings
-
-abbrev pub list : List Finding → List ℕ
-list findings = codes "<ul class=\"mine\">" ++ items findings ++ codes "</ul>\n"
+unfoldable pub entries : List Finding → List ℕ
+entries findings = flat_map entry findings
 
 -- The lines that stand out, if there are any.
 abbrev pub findings_list : List Finding → List ℕ
-findings_list findings = if length findings == 0 then [] else list findings
+findings_list findings = if length findings == 0 then [] else tag_html FindingsStart ++ entries findings ++ tag_html ListEnd

@@ -1,41 +1,51 @@
--- A proposal that waits. (this project's own, over HTML)
-use Rattle.std.specs.Prelude.{◌≡◌, ℕ, ◌+◌, Bool, List, [], ◌∷◌, ◌++◌, codes, if◌then◌else◌}
+-- A proposal that waits. (this project's own)
+use Rattle.std.specs.Prelude.{◌≡◌, ℕ, ◌+◌, Bool, false, not, List, [], ◌∷◌, ◌++◌, codes, if◌then◌else◌}
 use Rattle.std.specs.Borrow.{Bor}
 use Rattle.std.specs.BTreeSet.{BTreeSet, contains}
 use Rattle.std.specs.Cmp.Lexicographic.{slice_cmp}
-use Rattle.std.specs.Fmt.{decimal}
 use Rattle.std.specs.List.{list_any}
 use Rattle.std.specs.Ordering.{nat_cmp}
 use Rattle.std.specs.declared.cmp.Ordering.{Ordering}
 use Rattle.std.specs.Str.{bytes_eq}
 use Rattle.std.specs.Str.Lines.{lines}
-use Rattle.page_html.specs.Numbers.{number}
-use Rattle.page_html.specs.Pieces.{box_start, code}
-use Rattle.page_html.specs.TextRows.{line_cell}
+use Rattle.page_html.specs.Blocks.{element_html, tag_html}
+use Rattle.page_html.specs.Items.{Code, Digits, Item, Line, Nothing, Number, Own, Strong, Words}
+use Rattle.page_html.specs.Pieces.{box_start}
+use Rattle.page_html.specs.Tables.{Frame, Name, Plain, marked_row_html}
+use Rattle.page_html.specs.declared.blocks.Element.TheVariants.{Paragraph}
+use Rattle.page_html.specs.declared.blocks.Tag.TheVariants.{ProposalStart}
+use Rattle.page_filesystem.specs.Sections.{heading}
 
 -- who proposes a text, as which revision, and what it needs if the file is guarded
-abbrev pub proposed_as : ℕ → List ℕ
-proposed_as revision = codes " proposes this text as revision " ++ number revision ++ codes ". It is not in force"
+abbrev pub approval : Bool → Item (List ℕ)
+approval guarded = if guarded then Own (Words (codes ": another of the custodians has to put the same text.")) else Own (Words (codes "."))
 
-abbrev pub approval_words : Bool → List ℕ
-approval_words guarded = if guarded then codes ": another of the custodians has to put the same text.</p>\n" else codes ".</p>\n"
+abbrev pub proposed_as : List ℕ → ℕ → Bool → List (Item (List ℕ))
+proposed_as author revision guarded =
+    Code author ∷ Own (Words (codes " proposes this text as revision ")) ∷ Own (Number revision) ∷ Own (Words (codes ". It is not in force"))
+    ∷ approval guarded ∷ []
 
 abbrev pub proposal_start : List ℕ → ℕ → Bool → List ℕ
 proposal_start author revision guarded =
-    codes "<section class=\"wait\">\n<h4>A proposal waits</h4>\n<p>" ++ code author ++ proposed_as revision ++ approval_words guarded
+    tag_html ProposalStart ++ heading (codes "A proposal waits") ++ element_html Paragraph (proposed_as author revision guarded)
+
+-- the table of a proposed text
+abbrev pub frame : Frame
+frame = record {
+  class = codes "text";
+  is_titled = false;
+  columns = Name (codes "Line") ∷ Plain (codes "In force?") ∷ Plain (codes "Text") ∷ [];
+}
 
 -- the row of a line, which stands out if it is not in force
-abbrev pub hit_class : Bool → List ℕ
-hit_class is_in_force = if is_in_force then [] else codes " class=\"hit\""
+abbrev pub not_yet : Bool → Item (List ℕ)
+not_yet is_in_force = if is_in_force then Own Nothing else Own (Strong (codes "not yet"))
 
-abbrev pub not_yet : Bool → List ℕ
-not_yet is_in_force = if is_in_force then [] else codes "<b>not yet</b>"
-
-abbrev pub proposed_start : ℕ → List ℕ → List ℕ → List ℕ
-proposed_start number class note = codes "<tr" ++ class ++ codes "><th scope=\"row\">" ++ decimal number ++ codes "</th><td>" ++ note ++ codes "</td>"
+abbrev pub proposed_cells : Bool → ℕ → List ℕ → List (List (Item (List ℕ)))
+proposed_cells is_in_force number line = (Own (Digits number) ∷ []) ∷ (not_yet is_in_force ∷ []) ∷ (Line line ∷ []) ∷ []
 
 abbrev pub proposed_row : Bool → ℕ → List ℕ → List ℕ
-proposed_row is_in_force number line = proposed_start number (hit_class is_in_force) (not_yet is_in_force) ++ line_cell line
+proposed_row is_in_force number line = marked_row_html (not is_in_force) frame (proposed_cells is_in_force number line)
 
 -- a line is one of these
 abbrev pub is_among : List (List ℕ) → List ℕ → Bool
@@ -56,10 +66,6 @@ proposed_heads =
 abbrev pub proposed_text : List ℕ → List ℕ → List ℕ → List ℕ
 proposed_text name in_force text =
     box_start (codes "Proposed text of ") name ++ proposed_heads ++ proposed_rows (lines in_force) 0 (lines text) ++ codes "</tbody></table></div>\n"
-
--- the end of a proposal
-abbrev pub proposal_end : List ℕ
-proposal_end = codes "</section>\n"
 
 -- the order of lines in a set
 abbrev pub order : Bor (List ℕ) → Bor (List ℕ) → Ordering

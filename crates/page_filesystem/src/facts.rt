@@ -1,16 +1,30 @@
 //! The facts of a file system.
 
-ghost use Rattle.std.specs.Prelude.{◌≡◌, ◌+◌, ◌^◌, ◌++◌, OnOk};
+ghost use Rattle.std.specs.Prelude.{◌≡◌, ◌++◌, IfOk, OnOk, map};
 ghost use Rattle.std.specs.Option.{option_copied};
 ghost use Rattle.std.specs.String.{string_bytes};
+ghost use Rattle.page_html.specs.Parts.{item_of};
 ghost use Rattle.page_filesystem.specs.Facts as spec;
 
 use desk_core::Head;
+use desk_exports::Profile;
 use desk_text::Text;
 use page_data::Counts;
-use page_findings::push_class_parts;
-use page_html::{push_guarded, push_in_force, push_kept_by};
+use page_findings::{Measure, measured};
+use page_html::{Column, Frame, Part, four_cells};
 use std::alloc::{AllocError, Global};
+
+/// The facts.
+const FACTS: Frame = Frame {
+    class: "facts",
+    is_titled: false,
+    columns: &[
+        Column::Fact("In force"),
+        Column::Fact("Custodians"),
+        Column::Fact("Guarded"),
+        Column::Fact("May mount some of it"),
+    ],
+};
 
 /// Adds the facts of a file system: the newest revision of its file, who keeps that, whether it is guarded, and how many addresses may
 /// mount some directory.
@@ -22,29 +36,76 @@ pub fn push_facts(
     counts: &Counts,
     page: &mut String,
 ) -> Result<(), AllocError>
-    requires { counts.now.denied + counts.now.read_only + counts.now.read_write + counts.now.root_kept ≡ 2 ^ 32 }
     ensures { OnOk result (string_bytes page.new ≡ string_bytes page.old ++ spec.facts (option_copied head.entry) custodians.now guarded counts.now) }
 {
-    page.push_str("<dl class=\"facts\">\n")?;
-    push_in_force(alloc, head, page)?;
-    push_keeping(custodians, guarded, page)?;
-    push_may_mount(alloc, counts, page)
+    let revision = revision_parts(alloc, head)?;
+    let may_mount = measured(alloc, Measure::Share, counts)?;
+    page_html::push_facts(
+        alloc,
+        &FACTS,
+        &four_cells(
+            revision.as_slice(),
+            &[Part::Codes(custodians)],
+            &[guarded_part(guarded)],
+            may_mount.as_slice(),
+        ),
+        page,
+    )
 }
 
-/// Adds who keeps a file, and whether it is guarded.
-fn push_keeping(custodians: &[Text], guarded: bool, page: &mut String) -> Result<(), AllocError>
-    ensures { OnOk result (string_bytes page.new ≡ string_bytes page.old ++ spec.keeping custodians.now guarded) }
+/// Gathers what is said of the newest revision of a file.
+fn revision_parts<'a>(alloc: Global, head: Option<&'a Head>) -> Result<Vec<Part<'a>>, AllocError>
+    ensures { IfOk result (λ parts. map item_of parts.items ≡ spec.revision (option_copied head.entry)) }
 {
-    push_kept_by(custodians, page)?;
-    push_guarded(guarded, page)
+    match head {
+        None => Vec::from_slice(alloc, &[Part::Words("no revision")]),
+        Some(head) => Vec::from_slice(alloc, &written(head)),
+    }
 }
 
-/// Adds how many addresses may mount some directory, and ends the facts.
-fn push_may_mount(alloc: Global, counts: &Counts, page: &mut String) -> Result<(), AllocError>
-    requires { counts.now.denied + counts.now.read_only + counts.now.read_write + counts.now.root_kept ≡ 2 ^ 32 }
-    ensures { OnOk result (string_bytes page.new ≡ string_bytes page.old ++ spec.may_mount counts.now) }
+/// Returns which revision it is, who wrote it and who approved it, and its profile, if that is the old one.
+fn written<'a>(head: &'a Head) -> [Part<'a>; 7]
+    ensures { map item_of result ≡ spec.written head.now }
 {
-    page.push_str("<div><dt>May mount some of it</dt><dd>")?;
-    push_class_parts(alloc, counts, page)?;
-    page.push_str("</dd></div>\n</dl>\n")
+    let [approved, approver] = approved_by(&head.approver);
+    [
+        Part::Words("revision "),
+        Part::Number(u64::from(head.rev)),
+        Part::Words(" by "),
+        Part::Code(head.author.as_str()),
+        approved,
+        approver,
+        profile_part(head.profile),
+    ]
+}
+
+/// Returns who approved a revision, if somebody did.
+fn approved_by<'a>(approver: &'a Option<Text>) -> [Part<'a>; 2]
+    ensures { map item_of result ≡ spec.approved_by approver.now }
+{
+    match approver {
+        None => [Part::Nothing, Part::Nothing],
+        Some(name) => [Part::Words(", approved by "), Part::Code(name.as_str())],
+    }
+}
+
+/// Returns the profile, if it is the old one.
+fn profile_part<'a>(profile: Profile) -> Part<'a>
+    ensures { item_of result ≡ spec.profile profile }
+{
+    match profile {
+        Profile::One => Part::Words(", of profile 1"),
+        Profile::Two => Part::Nothing,
+    }
+}
+
+/// Returns whether a change needs two custodians.
+fn guarded_part<'a>(guarded: bool) -> Part<'a>
+    ensures { item_of result ≡ spec.guarded guarded }
+{
+    if guarded {
+        Part::Words("yes: a change of its exports needs two of them")
+    } else {
+        Part::Words("no: each of them may change it alone")
+    }
 }

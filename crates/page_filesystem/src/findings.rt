@@ -1,11 +1,12 @@
 //! What stands out of the lines of a file system.
 
-ghost use Rattle.std.specs.Prelude.{◌≡◌, ◌++◌, OnOk};
+ghost use Rattle.std.specs.Prelude.{◌≡◌, ◌++◌, IfOk, OnOk, map};
 ghost use Rattle.std.specs.String.{string_bytes};
+ghost use Rattle.page_html.specs.Parts.{item_of};
 ghost use Rattle.page_filesystem.specs.Findings as spec;
 
-use page_findings::{Finding, push_finding_words, push_level_mark};
-use page_html::push_line_link;
+use page_findings::{Finding, finding_parts, level_part};
+use page_html::{Element, Part, Tag, push_element, push_tag};
 use std::alloc::{AllocError, Global};
 
 /// Adds the lines that stand out, if there are any.
@@ -19,46 +20,46 @@ pub fn push_findings(
     if findings.is_empty() {
         return Ok(());
     }
-    push_list(alloc, findings, page)
+    push_tag(Tag::FindingsStart, page)?;
+    push_entries(alloc, findings, page)?;
+    push_tag(Tag::ListEnd, page)
 }
 
-/// Adds the list of these lines.
-fn push_list(alloc: Global, findings: &[Finding<'_>], page: &mut String) -> Result<(), AllocError>
-    ensures { OnOk result (string_bytes page.new ≡ string_bytes page.old ++ spec.list findings.now) }
-{
-    page.push_str("<ul class=\"mine\">")?;
-    push_items(alloc, findings, page)?;
-    page.push_str("</ul>\n")
-}
-
-/// Adds an item for each line.
-#[tactic(auto, unfolding(crate::specs::Findings::items))]
-fn push_items(alloc: Global, findings: &[Finding<'_>], page: &mut String) -> Result<(), AllocError>
-    ensures { OnOk result (string_bytes page.new ≡ string_bytes page.old ++ spec.items findings.now) }
+/// Adds an entry for each line.
+#[tactic(auto, unfolding(crate::specs::Findings::entries))]
+fn push_entries(
+    alloc: Global,
+    findings: &[Finding<'_>],
+    page: &mut String,
+) -> Result<(), AllocError>
+    ensures { OnOk result (string_bytes page.new ≡ string_bytes page.old ++ spec.entries findings.now) }
 {
     for finding in findings {
-        push_item(alloc, finding, page)?;
+        push_entry(alloc, finding, page)?;
     }
     Ok(())
 }
 
-/// Adds the item of a line.
-fn push_item(alloc: Global, finding: &Finding<'_>, page: &mut String) -> Result<(), AllocError>
-    ensures { OnOk result (string_bytes page.new ≡ string_bytes page.old ++ spec.item finding.now) }
+/// Adds the entry of a line.
+fn push_entry(alloc: Global, finding: &Finding<'_>, page: &mut String) -> Result<(), AllocError>
+    ensures { OnOk result (string_bytes page.new ≡ string_bytes page.old ++ spec.entry finding.now) }
 {
-    push_item_start(finding, page)?;
-    push_finding_words(alloc, finding, page)?;
-    page.push_str("</li>\n")
+    let parts = entry_parts(alloc, finding)?;
+    push_element(alloc, Element::Entry, parts.as_slice(), page)
 }
 
-/// Begins an item with the level of the line, and a link to it.
-fn push_item_start(finding: &Finding<'_>, page: &mut String) -> Result<(), AllocError>
-    ensures { OnOk result (string_bytes page.new ≡ string_bytes page.old ++ spec.item_start finding.now) }
+/// Gathers the level of a line, a link to it, and why it stands out.
+fn entry_parts<'a>(alloc: Global, finding: &Finding<'a>) -> Result<Vec<Part<'a>>, AllocError>
+    ensures { IfOk result (λ parts. map item_of parts.items ≡ spec.entry_items finding.now) }
 {
-    let level = finding.level();
-    page.push_str("<li>")?;
-    push_level_mark(level, page)?;
-    page.push_str(" ")?;
-    push_line_link(finding.fs, finding.line, page)?;
-    page.push_str(": ")
+    let words = finding_parts(alloc, finding)?;
+    let start = [
+        level_part(finding.level()),
+        Part::Words(" "),
+        Part::LineLink(finding.fs, finding.line),
+        Part::Words(": "),
+    ];
+    let mut parts = Vec::from_slice(alloc, &start)?;
+    parts.extend_from_slice(words.as_slice())?;
+    Ok(parts)
 }

@@ -1,14 +1,13 @@
 //! What is said of a line beside the text of a file.
 
-ghost use Rattle.std.specs.Prelude.{◌≡◌, ◌==◌, ◌<◌, ◌++◌, OnOk, find};
+ghost use Rattle.std.specs.Prelude.{◌≡◌, ◌==◌, ◌<◌, find, map};
 ghost use Rattle.std.specs.List.{AllPairs};
-ghost use Rattle.std.specs.String.{string_bytes};
+ghost use Rattle.page_html.specs.Parts.{item_of};
 ghost use Rattle.page_filesystem.specs.Gutter as spec;
 
 use page_data::Class;
-use page_findings::push_badge;
-use page_html::push_count_cell;
-use std::alloc::{AllocError, Global};
+use page_findings::badge_part;
+use page_html::Part;
 
 /// What a logical line does.
 #[derive(Clone, Copy)]
@@ -46,65 +45,58 @@ pub(crate) fn note_on(notes: &[Note], line: u32) -> Option<Note>
     }
 }
 
-/// Adds the cells for what is said of a line, if something is.
-pub(crate) fn push_note_cells(
-    alloc: Global,
-    note: Option<Note>,
-    page: &mut String,
-) -> Result<(), AllocError>
-    ensures { OnOk result (string_bytes page.new ≡ string_bytes page.old ++ spec.note_cells note) }
+/// Returns what is said of a line, if something is.
+pub(crate) fn said_parts<'a>(note: Option<Note>) -> [Part<'a>; 3]
+    ensures { map item_of result ≡ spec.said_items note }
 {
     match note {
-        Some(note) => push_said_cells(alloc, note.said, page),
-        None => page.push_str("<td></td><td class=\"num\"></td>"),
+        None => [Part::Nothing, Part::Nothing, Part::Nothing],
+        Some(note) => does(note.said),
     }
 }
 
-/// Adds the cells for what a line does.
-fn push_said_cells(alloc: Global, said: Said, page: &mut String) -> Result<(), AllocError>
-    ensures { OnOk result (string_bytes page.new ≡ string_bytes page.old ++ spec.said_cells said) }
+/// Returns what a line does.
+fn does<'a>(said: Said) -> [Part<'a>; 3]
+    ensures { map item_of result ≡ spec.does said }
 {
     match said {
         Said::Grants {
             class,
-            for_everybody,
-            count,
-        } => push_grant_cells(alloc, class, for_everybody, count, page),
-        Said::MatchesNobody => {
-            page.push_str("<td><b>matches nobody</b></td><td class=\"num\"></td>")
-        }
-        Said::NeverDecides => {
-            page.push_str("<td><b>never decides</b></td><td class=\"num\"></td>")
-        }
-        Said::NotRead => page.push_str(
-            "<td><span class=\"zero\">not read</span></td><td class=\"num\"></td>",
-        ),
+            for_everybody: true,
+            ..
+        } => [
+            badge_part(class),
+            Part::Words(" "),
+            Part::Strong("everybody"),
+        ],
+        Said::Grants { class, .. } => [badge_part(class), Part::Nothing, Part::Nothing],
+        Said::MatchesNobody => [Part::Strong("matches nobody"), Part::Nothing, Part::Nothing],
+        Said::NeverDecides => [Part::Strong("never decides"), Part::Nothing, Part::Nothing],
+        Said::NotRead => [Part::Zero("not read"), Part::Nothing, Part::Nothing],
     }
 }
 
-/// Adds the cells for what a line grants.
-fn push_grant_cells(
-    alloc: Global,
-    class: Class,
-    for_everybody: bool,
-    count: u64,
-    page: &mut String,
-) -> Result<(), AllocError>
-    ensures { OnOk result (string_bytes page.new ≡ string_bytes page.old ++ spec.grant_cells class for_everybody count) }
+/// Returns to how many addresses a line grants something, if it does.
+pub(crate) fn count_part<'a>(note: Option<Note>) -> Part<'a>
+    ensures { item_of result ≡ spec.count_item note }
 {
-    page.push_str("<td>")?;
-    push_badge(class, page)?;
-    page.push_str(everybody_words(for_everybody))?;
-    push_count_cell(alloc, count, page)
+    match note {
+        Some(
+            Note {
+                said: Said::Grants { count, .. },
+                ..
+            },
+        ) => Part::Number(count),
+        _ => Part::Nothing,
+    }
 }
 
-/// Returns whether a line is for everybody, and ends the cell.
-fn everybody_words(for_everybody: bool) -> &'static str
-    ensures { result.now ≡ spec.everybody_words for_everybody }
+/// Tests whether a line stands out.
+pub(crate) fn stands_out(note: Option<Note>) -> bool
+    ensures { result ≡ spec.stands_out note }
 {
-    if for_everybody {
-        " <b>everybody</b></td>"
-    } else {
-        "</td>"
+    match note {
+        Some(note) => note.stands_out,
+        None => false,
     }
 }

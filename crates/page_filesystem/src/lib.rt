@@ -19,7 +19,7 @@ pub mod own_lines;
 pub mod own_parts;
 pub mod parts;
 pub mod proposals;
-pub mod sections;
+mod sections;
 pub mod shares;
 pub mod texts;
 
@@ -34,7 +34,6 @@ pub use outcomes::{Outcome, push_outcome};
 pub use own_lines::lines_in;
 pub use own_parts::{FileSystemData, push_file_system_of};
 pub use parts::{FileSystemPart, ProposalPart, push_file_system};
-pub use proposals::{push_proposal_end, push_proposal_start, push_proposed_text};
-pub use sections::{push_clients_heading, push_section_end, push_section_start, push_text_heading};
+pub use proposals::{push_proposal_start, push_proposed_text};
 pub use shares::{Share, Space, push_shares_block};
 pub use texts::push_text_block;

@@ -4,7 +4,7 @@ ghost use Rattle.std.specs.Prelude.{◌≡◌, ◌++◌, OnOk};
 ghost use Rattle.std.specs.String.{string_bytes};
 ghost use Rattle.page_filesystem.specs.Outcomes as spec;
 
-use page_html::push_code;
+use page_html::{Element, Part, push_element};
 use page_places::{ChangeRow, push_changes};
 use std::alloc::{AllocError, Global};
 
@@ -27,15 +27,15 @@ pub fn push_outcome(
 {
     match outcome {
         Outcome::Changes(rows, silent) => push_changes(alloc, rows, silent, page),
-        Outcome::Refused(fault) => push_refused(fault, page),
+        Outcome::Refused(fault) => push_element(
+            alloc,
+            Element::Paragraph,
+            &[
+                Part::Words("It cannot be put in force now: "),
+                Part::Code(fault),
+                Part::Words("."),
+            ],
+            page,
+        ),
     }
-}
-
-/// Adds why a proposal cannot be put in force.
-fn push_refused(fault: &str, page: &mut String) -> Result<(), AllocError>
-    ensures { OnOk result (string_bytes page.new ≡ string_bytes page.old ++ spec.refused_words fault.now) }
-{
-    page.push_str("<p>It cannot be put in force now: ")?;
-    push_code(fault, page)?;
-    page.push_str(".</p>\n")
 }

@@ -10,10 +10,8 @@ use crate::facts::push_facts;
 use crate::findings::push_findings;
 use crate::gutter::Note;
 use crate::outcomes::{Outcome, push_outcome};
-use crate::proposals::{push_proposal_end, push_proposal_start, push_proposed_text};
-use crate::sections::{
-    push_clients_heading, push_section_end, push_section_start, push_text_heading,
-};
+use crate::proposals::{push_proposal_start, push_proposed_text};
+use crate::sections::push_heading;
 use crate::shares::{Share, push_shares_block};
 use crate::texts::push_text_block;
 use desk_core::Head;
@@ -21,6 +19,7 @@ use desk_tables::FsId;
 use desk_text::Text;
 use page_data::Counts;
 use page_findings::Finding;
+use page_html::{Element, Part, Tag, push_element, push_system_start, push_tag};
 use page_places::{GroupPart, push_groups, push_groups_start, push_not_listed};
 use std::alloc::{AllocError, Global};
 
@@ -84,7 +83,8 @@ fn push_head_part(
     requires { spec.IsTellable part.now }
     ensures { OnOk result (string_bytes page.new ≡ string_bytes page.old ++ spec.head_part part.now) }
 {
-    push_section_start(part.fs, part.name, page)?;
+    push_system_start(part.fs, page)?;
+    push_element(alloc, Element::Heading, &[Part::Code(part.name)], page)?;
     push_facts(
         alloc,
         part.head,
@@ -131,7 +131,7 @@ fn push_proposal_part(
     )?;
     push_proposed_text(alloc, part.name, part.text, proposal.text, page)?;
     push_outcome(alloc, proposal.outcome, page)?;
-    push_proposal_end(page)
+    push_tag(Tag::SectionEnd, page)
 }
 
 /// Adds its text in force.
@@ -143,7 +143,7 @@ fn push_text_part(
     requires { spec.IsTellable part.now }
     ensures { OnOk result (string_bytes page.new ≡ string_bytes page.old ++ spec.text_part part.now) }
 {
-    push_text_heading(page)?;
+    push_heading(alloc, "Text in force", page)?;
     push_text_block(alloc, part.fs, part.name, part.text, part.notes, page)
 }
 
@@ -171,7 +171,7 @@ fn push_shares_part(
     requires { spec.IsTellable part.now }
     ensures { OnOk result (string_bytes page.new ≡ string_bytes page.old ++ spec.shares_part part.now) }
 {
-    push_clients_heading(page)?;
+    push_heading(alloc, "Where its clients are", page)?;
     page.push_str(part.maps)?;
     push_shares_block(alloc, part.name, part.shares, part.networks_left_out, page)
 }
@@ -188,5 +188,11 @@ fn push_groups_part(
     push_groups_start(alloc, part.group_count, page)?;
     push_groups(alloc, part.fs, part.groups, page)?;
     push_not_listed(alloc, part.unlisted, part.has_unlisted_others, page)?;
-    push_section_end(page)
+    push_element(
+        alloc,
+        Element::Up,
+        &[Part::Link("systems", "All file systems")],
+        page,
+    )?;
+    push_tag(Tag::SectionEnd, page)
 }

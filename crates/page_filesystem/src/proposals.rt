@@ -4,12 +4,28 @@ ghost use Rattle.std.specs.Prelude.{◌≡◌, ◌++◌, ℕ, IfOk, List, OnOk};
 ghost use Rattle.std.specs.Str.Lines.{lines};
 ghost use Rattle.std.specs.String.{string_bytes};
 ghost use Rattle.desk_text.specs.Lines.{IsReadable};
+ghost use Rattle.page_html.specs.Parts.{item_of};
 ghost use Rattle.page_filesystem.specs.Proposals as spec;
 ghost use Rattle.page_filesystem.specs.Proposals.{HasLines};
 
-use page_html::{push_box_start, push_code, push_line_cell, push_number};
+use crate::sections::push_heading;
+use page_html::{
+    Column, Element, Frame, Part, Tag, push_box_start, push_element, push_fixed, push_marked_row,
+    push_tag,
+};
 use std::alloc::{AllocError, Global};
 use std::collections::BTreeSet;
+
+/// The table of a proposed text.
+const PROPOSED: Frame = Frame {
+    class: "text",
+    is_titled: false,
+    columns: &[
+        Column::Name("Line"),
+        Column::Plain("In force?"),
+        Column::Plain("Text"),
+    ],
+};
 
 /// Begins a proposal: who proposes it, as which revision, and what it needs if the file is guarded.
 pub fn push_proposal_start(
@@ -21,29 +37,30 @@ pub fn push_proposal_start(
 ) -> Result<(), AllocError>
     ensures { OnOk result (string_bytes page.new ≡ string_bytes page.old ++ spec.proposal_start author.now revision guarded) }
 {
-    page.push_str("<section class=\"wait\">\n<h4>A proposal waits</h4>\n<p>")?;
-    push_code(author, page)?;
-    push_proposed_as(alloc, revision, page)?;
-    page.push_str(approval_words(guarded))
+    push_tag(Tag::ProposalStart, page)?;
+    push_heading(alloc, "A proposal waits", page)?;
+    push_element(
+        alloc,
+        Element::Paragraph,
+        &[
+            Part::Code(author),
+            Part::Words(" proposes this text as revision "),
+            Part::Number(revision),
+            Part::Words(". It is not in force"),
+            approval_part(guarded),
+        ],
+        page,
+    )
 }
 
-/// Adds as which revision a text is proposed.
-fn push_proposed_as(alloc: Global, revision: u64, page: &mut String) -> Result<(), AllocError>
-    ensures { OnOk result (string_bytes page.new ≡ string_bytes page.old ++ spec.proposed_as revision) }
-{
-    page.push_str(" proposes this text as revision ")?;
-    push_number(alloc, revision, page)?;
-    page.push_str(". It is not in force")
-}
-
-/// Returns what a proposal needs, and ends the paragraph.
-fn approval_words(guarded: bool) -> &'static str
-    ensures { result.now ≡ spec.approval_words guarded }
+/// Returns what a proposal needs.
+fn approval_part<'a>(guarded: bool) -> Part<'a>
+    ensures { item_of result ≡ spec.approval guarded }
 {
     if guarded {
-        ": another of the custodians has to put the same text.</p>\n"
+        Part::Words(": another of the custodians has to put the same text.")
     } else {
-        ".</p>\n"
+        Part::Words(".")
     }
 }
 
@@ -61,8 +78,8 @@ pub fn push_proposed_text(
     let known = lines_of(alloc, in_force)?;
     push_box_start("Proposed text of ", name, page)?;
     push_proposed_heads(page)?;
-    push_proposed_rows(&known, text, page)?;
-    page.push_str("</tbody></table></div>\n")
+    push_proposed_rows(alloc, &known, text, page)?;
+    push_fixed("</tbody></table></div>\n", page)
 }
 
 /// Gathers the physical lines of a text.
@@ -81,13 +98,15 @@ fn lines_of<'a>(alloc: Global, text: &'a str) -> Result<BTreeSet<&'a str>, Alloc
 fn push_proposed_heads(page: &mut String) -> Result<(), AllocError>
     ensures { OnOk result (string_bytes page.new ≡ string_bytes page.old ++ spec.proposed_heads) }
 {
-    page.push_str(
+    push_fixed(
         "<table class=\"text\"><caption class=\"off\">Proposed text</caption><thead><tr><th scope=\"col\">Line</th><th scope=\"col\">In force?</th><th scope=\"col\">Text</th></tr></thead><tbody>",
+        page,
     )
 }
 
 /// Adds the rows of the lines of a proposed text, given those of the text in force.
 fn push_proposed_rows(
+    alloc: Global,
     known: &BTreeSet<&str>,
     text: &str,
     page: &mut String,
@@ -99,13 +118,14 @@ fn push_proposed_rows(
     let mut number = 0;
     for line in text.lines() {
         number += 1;
-        push_proposed_row(number, known.contains(line), line, page)?;
+        push_proposed_row(alloc, number, known.contains(line), line, page)?;
     }
     Ok(())
 }
 
 /// Adds the row of a line, which stands out if it is not in force.
 fn push_proposed_row(
+    alloc: Global,
     number: u32,
     is_in_force: bool,
     line: &str,
@@ -113,42 +133,21 @@ fn push_proposed_row(
 ) -> Result<(), AllocError>
     ensures { OnOk result (string_bytes page.new ≡ string_bytes page.old ++ spec.proposed_row is_in_force number line.now) }
 {
-    push_proposed_start(number, hit_class(is_in_force), not_yet(is_in_force), page)?;
-    push_line_cell(line, page)
-}
-
-/// Begins a row of this class, with this note.
-fn push_proposed_start(
-    number: u32,
-    class: &str,
-    note: &str,
-    page: &mut String,
-) -> Result<(), AllocError>
-    ensures { OnOk result (string_bytes page.new ≡ string_bytes page.old ++ spec.proposed_start number class.now note.now) }
-{
-    write!(
-        page,
-        "<tr{class}><th scope=\"row\">{number}</th><td>{note}</td>"
-    )
-}
-
-/// Returns the class of a row.
-fn hit_class(is_in_force: bool) -> &'static str
-    ensures { result.now ≡ spec.hit_class is_in_force }
-{
-    if is_in_force { "" } else { " class=\"hit\"" }
+    let cells: [&[Part<'_>]; 3] = [
+        &[Part::Digits(number)],
+        &[not_yet(is_in_force)],
+        &[Part::Line(line)],
+    ];
+    push_marked_row(alloc, &PROPOSED, !is_in_force, &cells, page)
 }
 
 /// Returns what is said of a line.
-fn not_yet(is_in_force: bool) -> &'static str
-    ensures { result.now ≡ spec.not_yet is_in_force }
+fn not_yet<'a>(is_in_force: bool) -> Part<'a>
+    ensures { item_of result ≡ spec.not_yet is_in_force }
 {
-    if is_in_force { "" } else { "<b>not yet</b>" }
-}
-
-/// Ends a proposal.
-pub fn push_proposal_end(page: &mut String) -> Result<(), AllocError>
-    ensures { OnOk result (string_bytes page.new ≡ string_bytes page.old ++ spec.proposal_end) }
-{
-    page.push_str("</section>\n")
+    if is_in_force {
+        Part::Nothing
+    } else {
+        Part::Strong("not yet")
+    }
 }

@@ -5,16 +5,30 @@ ghost use Rattle.std.specs.List.{AllPairs};
 ghost use Rattle.std.specs.Str.Lines.{lines};
 ghost use Rattle.std.specs.String.{string_bytes};
 ghost use Rattle.desk_text.specs.Lines.{IsReadable};
-ghost use Rattle.page_filesystem.specs.Gutter as gutter;
 ghost use Rattle.page_filesystem.specs.Texts as spec;
 
-use crate::gutter::{Note, note_on, push_note_cells};
+use crate::gutter::{Note, count_part, note_on, said_parts, stands_out};
 use desk_tables::FsId;
-use page_html::{push_box_start, push_code, push_line_cell, push_plural, push_row_start};
+use page_html::{
+    Column, Element, Frame, Part, Tag, push_box_start, push_element, push_fixed, push_line_row,
+    push_parts, push_tag,
+};
 use std::alloc::{AllocError, Global};
 
 /// How many lines of a text stand in the open.
 const OPEN_LINES: u64 = 40;
+
+/// The table.
+const TEXT: Frame = Frame {
+    class: "text",
+    is_titled: false,
+    columns: &[
+        Column::Name("Line"),
+        Column::Plain("It grants"),
+        Column::Count("to addresses"),
+        Column::Plain("Text"),
+    ],
+};
 
 /// Adds the text of the file of a file system with a name, folded if it is long, with the notes on its lines in their order.
 pub fn push_text_block(
@@ -48,9 +62,14 @@ fn push_folded_text(
     requires ascending { AllPairs (λ note later. note.line < later.line) notes.now }
     ensures { OnOk result (string_bytes page.new ≡ string_bytes page.old ++ spec.folded_text fs.0 name.now notes.now text.now) }
 {
-    push_lines_summary(alloc, line_count(text), page)?;
+    push_element(
+        alloc,
+        Element::Fold,
+        &[Part::Plural(line_count(text), "line", "lines")],
+        page,
+    )?;
     push_text_table(alloc, fs, name, text, notes, page)?;
-    page.push_str("</details>\n")
+    push_tag(Tag::FoldEnd, page)
 }
 
 /// Counts the physical lines of a text.
@@ -63,15 +82,6 @@ fn line_count(text: &str) -> u64
         count += 1;
     }
     count
-}
-
-/// Begins a text that is folded, of so many lines.
-fn push_lines_summary(alloc: Global, count: u64, page: &mut String) -> Result<(), AllocError>
-    ensures { OnOk result (string_bytes page.new ≡ string_bytes page.old ++ spec.lines_summary count) }
-{
-    page.push_str("<details><summary>")?;
-    push_plural(alloc, count, "line", "lines", page)?;
-    page.push_str("</summary>\n")
 }
 
 /// Adds the table of the lines of a text, or that it is empty.
@@ -88,8 +98,11 @@ fn push_text_table(
     ensures { OnOk result (string_bytes page.new ≡ string_bytes page.old ++ spec.text_table fs.0 name.now notes.now text.now) }
 {
     if text.is_empty() {
-        return page.push_str(
-            "<p>The text is empty: nobody may mount any of its directories.</p>\n",
+        return push_element(
+            alloc,
+            Element::Paragraph,
+            &[Part::Words("The text is empty: nobody may mount any of its directories.")],
+            page,
         );
     }
     push_lines_table(alloc, fs, name, text, notes, page)
@@ -108,18 +121,23 @@ fn push_lines_table(
     requires ascending { AllPairs (λ note later. note.line < later.line) notes.now }
     ensures { OnOk result (string_bytes page.new ≡ string_bytes page.old ++ spec.lines_table fs.0 name.now notes.now text.now) }
 {
-    push_text_head(name, page)?;
+    push_text_start(alloc, name, page)?;
     push_text_rows(alloc, fs, text, notes, page)?;
-    page.push_str("</tbody></table></div>\n")
+    push_fixed("</tbody></table></div>\n", page)
 }
 
-/// Begins the table of the text of a file.
-fn push_text_head(name: &str, page: &mut String) -> Result<(), AllocError>
-    ensures { OnOk result (string_bytes page.new ≡ string_bytes page.old ++ spec.text_head name.now) }
+/// Begins the table. Its box is called by fewer words than the caption has.
+fn push_text_start(alloc: Global, name: &str, page: &mut String) -> Result<(), AllocError>
+    ensures { OnOk result (string_bytes page.new ≡ string_bytes page.old ++ spec.text_start name.now) }
 {
+    let caption = [
+        Part::Words("Text of "),
+        Part::Code(name),
+        Part::Words(", and what each line grants"),
+    ];
     push_box_start("Text of ", name, page)?;
-    page.push_str("<table class=\"text\"><caption class=\"off\">Text of ")?;
-    push_code(name, page)?;
+    push_fixed("<table class=\"text\"><caption class=\"off\">", page)?;
+    push_parts(alloc, &caption, page)?;
     push_text_heads(page)
 }
 
@@ -128,8 +146,9 @@ fn push_text_head(name: &str, page: &mut String) -> Result<(), AllocError>
 fn push_text_heads(page: &mut String) -> Result<(), AllocError>
     ensures { OnOk result (string_bytes page.new ≡ string_bytes page.old ++ spec.text_heads) }
 {
-    page.push_str(
-        ", and what each line grants</caption>\n<thead><tr><th scope=\"col\">Line</th><th scope=\"col\">It grants</th><th scope=\"col\" class=\"num\">to addresses</th><th scope=\"col\">Text</th></tr></thead>\n<tbody>\n",
+    push_fixed(
+        "</caption>\n<thead><tr><th scope=\"col\">Line</th><th scope=\"col\">It grants</th><th scope=\"col\" class=\"num\">to addresses</th><th scope=\"col\">Text</th></tr></thead>\n<tbody>\n",
+        page,
     )
 }
 
@@ -164,17 +183,12 @@ fn push_text_row(
 ) -> Result<(), AllocError>
     ensures { OnOk result (string_bytes page.new ≡ string_bytes page.old ++ spec.text_row_with fs.0 number note line.now) }
 {
-    push_row_start(fs, number, stands_out(note), page)?;
-    push_note_cells(alloc, note, page)?;
-    push_line_cell(line, page)
-}
-
-/// Tests whether a line stands out.
-fn stands_out(note: Option<Note>) -> bool
-    ensures { result ≡ gutter.stands_out note }
-{
-    match note {
-        Some(note) => note.stands_out,
-        None => false,
-    }
+    let said = said_parts(note);
+    let cells: [&[Part<'_>]; 4] = [
+        &[Part::Digits(number)],
+        &said,
+        &[count_part(note)],
+        &[Part::Line(line)],
+    ];
+    push_line_row(alloc, &TEXT, fs, number, stands_out(note), &cells, page)
 }

@@ -5,7 +5,7 @@ use Rattle.page_data.specs.declared.class.Class.TheVariants.{Denied, ReadOnly, R
 use Rattle.page_data.specs.declared.counts.Counts.{Counts}
 use Rattle.page_data.specs.declared.reasons.Level.{Level}
 use Rattle.page_data.specs.declared.reasons.Level.TheVariants.{LookFirst, Check}
-use Rattle.page_html.specs.Items.{Badge, Item, Number, Own, PartOf, Space, Words, item_html, items_html}
+use Rattle.page_html.specs.Items.{Badge, Item, Number, Own, PartOf, Space, Words, items_html}
 use Rattle.page_html.specs.Items as items
 use Rattle.page_findings.specs.Joining.{comma, joined}
 use Rattle.page_findings.specs.declared.badges.Measure.{Measure}
@@ -18,16 +18,10 @@ badge_item ReadOnly = Own (Badge (codes "o") (codes "read-only"))
 badge_item ReadWrite = Own (Badge (codes "w") (codes "read-write"))
 badge_item RootKept = Own (Badge (codes "r") (codes "root kept"))
 
-abbrev pub badge : Class → List ℕ
-badge class = item_html (badge_item class)
-
 -- the mark of a level
 abbrev pub level_item : Level → Item (List ℕ)
 level_item LookFirst = Own (items.Level (codes "look-first") (codes "look first"))
 level_item Check = Own (items.Level (codes "check") (codes "check"))
-
-abbrev pub level_mark : Level → List ℕ
-level_mark level = item_html (level_item level)
 
 -- the words for a class
 abbrev pub class_words : Class → List ℕ
@@ -67,6 +61,3 @@ measured_items measure counts = classes_items measure counts (present counts)
 
 unfoldable pub count_words : Counts → List ℕ
 count_words counts = items_html (measured_items Count counts)
-
-unfoldable pub class_parts : Counts → List ℕ
-class_parts counts = items_html (measured_items Share counts)

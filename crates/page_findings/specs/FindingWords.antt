@@ -13,7 +13,7 @@ use Rattle.page_data.specs.declared.reasons.Reason.TheVariants.{NoClient, NeverD
 use Rattle.desk_server.specs.declared.repeated_client.RepeatedClient.{RepeatedClient as Repeated}
 use Rattle.desk_server.specs.declared.wider_grant.WiderGrant.{WiderGrant}
 use Rattle.page_html.specs.declared.ranges.Span.{Span}
-use Rattle.page_html.specs.Items.{AndMore, Code, Item, LineLink, Own, Range, Word, Words, items_html}
+use Rattle.page_html.specs.Items.{AndMore, Code, Item, LineLink, Own, Range, Word, Words}
 use Rattle.page_findings.specs.Joining.{comma, joined}
 use Rattle.page_findings.specs.declared.finding_words.Finding.{Finding}
 
@@ -27,9 +27,6 @@ flavour_item flavour = Own (Words (flavour_word flavour)) ∷ []
 
 abbrev pub flavour_items : List Flavour → List (Item (List ℕ))
 flavour_items flavours = joined flavour_item colon flavours
-
-unfoldable pub flavour_names : List Flavour → List ℕ
-flavour_names flavours = items_html (flavour_items flavours)
 
 -- a line is for everybody
 abbrev pub for_everybody : List ℕ → Terms → List (Item (List ℕ))
@@ -104,6 +101,3 @@ reasons_items finding reasons = joined (reason_items finding) comma reasons
 
 abbrev pub finding_items : Finding → List (Item (List ℕ))
 finding_items finding = reasons_items finding finding.reasons.now
-
-unfoldable pub finding_words : Finding → List ℕ
-finding_words finding = items_html (finding_items finding)

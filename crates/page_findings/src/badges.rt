@@ -2,14 +2,13 @@
 
 ghost use Rattle.std.specs.Prelude.{◌≡◌, ◌++◌, ◌∷◌, IfOk, OnOk, map};
 ghost use Rattle.std.specs.List.{flat_map};
-ghost use Rattle.std.specs.String.{string_bytes};
 ghost use Rattle.page_html.specs.Parts.{item_of};
 ghost use Rattle.page_findings.specs.Badges as spec;
 ghost use Rattle.page_findings.specs.Joining.{comma};
 
 use crate::joining::push_all;
 use page_data::{Class, Counts, Level};
-use page_html::{Part, push_parts};
+use page_html::Part;
 use std::alloc::{AllocError, Global};
 
 /// How many addresses there are.
@@ -24,25 +23,6 @@ pub enum Measure {
     Share,
 }
 
-/// Adds the badge of a class.
-pub fn push_badge(class: Class, page: &mut String) -> Result<(), AllocError>
-    ensures { OnOk result (string_bytes page.new ≡ string_bytes page.old ++ spec.badge class) }
-{
-    page.push_str(badge_text(class))
-}
-
-/// Returns the badge of a class as it is written.
-fn badge_text(class: Class) -> &'static str
-    ensures { result.now ≡ spec.badge class }
-{
-    match class {
-        Class::Denied => "<span class=\"b n\">denied</span>",
-        Class::ReadOnly => "<span class=\"b o\">read-only</span>",
-        Class::ReadWrite => "<span class=\"b w\">read-write</span>",
-        Class::RootKept => "<span class=\"b r\">root kept</span>",
-    }
-}
-
 /// Returns the badge of a class.
 pub fn badge_part<'a>(class: Class) -> Part<'a>
     ensures { item_of result ≡ spec.badge_item class }
@@ -52,23 +32,6 @@ pub fn badge_part<'a>(class: Class) -> Part<'a>
         Class::ReadOnly => Part::Badge("o", "read-only"),
         Class::ReadWrite => Part::Badge("w", "read-write"),
         Class::RootKept => Part::Badge("r", "root kept"),
-    }
-}
-
-/// Adds the mark of a level.
-pub fn push_level_mark(level: Level, page: &mut String) -> Result<(), AllocError>
-    ensures { OnOk result (string_bytes page.new ≡ string_bytes page.old ++ spec.level_mark level) }
-{
-    page.push_str(level_text(level))
-}
-
-/// Returns the mark of a level as it is written.
-fn level_text(level: Level) -> &'static str
-    ensures { result.now ≡ spec.level_mark level }
-{
-    match level {
-        Level::LookFirst => "<b class=\"l look-first\">look first</b>",
-        Level::Check => "<b class=\"l check\">check</b>",
     }
 }
 
@@ -82,13 +45,6 @@ pub fn level_part<'a>(level: Level) -> Part<'a>
     }
 }
 
-/// Adds the words for a class.
-pub fn push_class_words(class: Class, page: &mut String) -> Result<(), AllocError>
-    ensures { OnOk result (string_bytes page.new ≡ string_bytes page.old ++ spec.class_words class) }
-{
-    page.push_str(words_of(class))
-}
-
 /// Returns the words for a class.
 fn words_of(class: Class) -> &'static str
     ensures { result.now ≡ spec.class_words class }
@@ -99,22 +55,6 @@ fn words_of(class: Class) -> &'static str
         Class::ReadWrite => "read-write",
         Class::RootKept => "root kept",
     }
-}
-
-/// Adds how many addresses are of which class, in words.
-pub fn push_count_words(alloc: Global, counts: &Counts, page: &mut String) -> Result<(), AllocError>
-    ensures { OnOk result (string_bytes page.new ≡ string_bytes page.old ++ spec.count_words counts.now) }
-{
-    let parts = measured(alloc, Measure::Count, counts)?;
-    push_parts(alloc, parts.as_slice(), page)
-}
-
-/// Adds what part of all addresses is of which class, with the badges.
-pub fn push_class_parts(alloc: Global, counts: &Counts, page: &mut String) -> Result<(), AllocError>
-    ensures { OnOk result (string_bytes page.new ≡ string_bytes page.old ++ spec.class_parts counts.now) }
-{
-    let parts = measured(alloc, Measure::Share, counts)?;
-    push_parts(alloc, parts.as_slice(), page)
 }
 
 /// Gathers how many addresses are of which class.

@@ -3,7 +3,6 @@
 ghost use Rattle.std.specs.Prelude.{◌≡◌, ◌++◌, ◌∷◌, IfOk, OnOk, codes, map};
 ghost use Rattle.std.specs.List.{flat_map};
 ghost use Rattle.std.specs.Option.{option_copied};
-ghost use Rattle.std.specs.String.{string_bytes};
 ghost use Rattle.page_data.specs.Reasons.{level_of_all};
 ghost use Rattle.page_html.specs.Parts.{item_of};
 ghost use Rattle.page_findings.specs.FindingWords as spec;
@@ -15,7 +14,7 @@ use desk_server::{RepeatedClient, WiderGrant};
 use desk_tables::FsId;
 use desk_text::{Addr, Path};
 use page_data::{Level, Reason, level_of_reasons};
-use page_html::{Part, Span, push_parts};
+use page_html::{Part, Span};
 use std::alloc::{AllocError, Global};
 
 /// So many of the lines that decide in place of another one are named.
@@ -42,18 +41,6 @@ impl Finding<'_> {
     {
         level_of_reasons(self.reasons)
     }
-}
-
-/// Adds why a line stands out.
-pub fn push_finding_words(
-    alloc: Global,
-    finding: &Finding<'_>,
-    page: &mut String,
-) -> Result<(), AllocError>
-    ensures { OnOk result (string_bytes page.new ≡ string_bytes page.old ++ spec.finding_words finding.now) }
-{
-    let parts = finding_parts(alloc, finding)?;
-    push_parts(alloc, parts.as_slice(), page)
 }
 
 /// Gathers why a line stands out.
@@ -138,19 +125,6 @@ fn push_for_everybody<'a>(
 }
 
 /// Adds the names of flavours, as a line writes them.
-pub fn push_flavour_names(
-    alloc: Global,
-    flavours: &[Flavour],
-    page: &mut String,
-) -> Result<(), AllocError>
-    ensures { OnOk result (string_bytes page.new ≡ string_bytes page.old ++ spec.flavour_names flavours.now) }
-{
-    let mut parts = Vec::new(alloc);
-    push_flavours(flavours, &mut parts)?;
-    push_parts(alloc, parts.as_slice(), page)
-}
-
-/// Adds the names of flavours.
 fn push_flavours<'a>(flavours: &[Flavour], parts: &mut Vec<Part<'a>>) -> Result<(), AllocError>
     ensures { OnOk result (map item_of parts.new.items ≡ map item_of parts.old.items ++ spec.flavour_items flavours.now) }
 {

@@ -8,8 +8,8 @@
 //! findings_of_site(alloc, lines.as_slice())?          // /u2 line 4: root stays root, 65,536 addresses; ..
 //! figures_of_site(alloc, policy, lines.as_slice())?.for_everybody     // 2
 //! deciding_lines(alloc, policy, fs, system.sections.as_slice(), reasons.as_slice())?.of_line(4)     // [2, 3]
-//! push_finding_words(alloc, &finding, &mut page)?;    // for everybody, read-write, sec=sys
-//! push_badge(Class::RootKept, &mut page)?;            // <span class="b r">root kept</span>
+//! finding_parts(alloc, &finding)?                       // for everybody, read-write, sec=sys
+//! badge_part(Class::RootKept)                           // <span class="b r">root kept</span>
 //! ```
 #![tactic(auto)]
 
@@ -27,13 +27,10 @@ mod naming;
 pub mod reasons;
 pub mod server;
 
-pub use badges::{
-    Measure, badge_part, level_part, measured, push_badge, push_class_parts, push_class_words,
-    push_count_words, push_level_mark,
-};
+pub use badges::{Measure, badge_part, level_part, measured};
 pub use deciding::{Deciding, NeverDecides, deciding_lines};
 pub use figures::{Figures, figures_of_site};
-pub use finding_words::{Finding, finding_parts, push_finding_words, push_flavour_names};
+pub use finding_words::{Finding, finding_parts};
 pub use findings::findings_of_site;
 pub use flavours::{FlavourUse, flavours_in_use};
 pub use laws::counted_lines_grant;

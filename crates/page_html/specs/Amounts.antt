@@ -13,7 +13,7 @@ and_more count = codes " and " ++ number count ++ codes " more"
 
 -- all but a number, before which no line is broken
 abbrev pub all_but : ℕ → List ℕ
-all_but count = codes "all but&nbsp;" ++ number count
+all_but count = codes "all&nbsp;but&nbsp;" ++ number count
 
 -- how much of a whole: none, all, all but a number if that is shorter, or the number
 abbrev pub part : ℕ → ℕ → List ℕ

@@ -9,7 +9,7 @@ before_policy = codes "<!DOCTYPE html>\n<html lang=\"en\">\n<head>\n<meta charse
 
 -- the policy that a browser keeps on the page, and the SHA-256 of the style sheet in Base64
 abbrev pub style_digest : List ℕ
-style_digest = codes "sha256-f+YsKoOLF425WIWyC22A3CXI89pvYeT01qxdXKv6CfQ="
+style_digest = codes "sha256-4rdn4sO52TbfG+mO+vk3R53Tm58Fof8PUx7CskmmetY="
 
 abbrev pub policy : List ℕ
 policy = codes "default-src 'none'; style-src '" ++ style_digest ++ codes "'"

@@ -2,12 +2,13 @@
 use Rattle.std.specs.Prelude.{ℕ, List, [], codes}
 use Rattle.std.specs.Fmt.{decimal}
 use Rattle.std.specs.List.{flat_map}
+use Rattle.desk_exports.specs.declared.entry.Flavour.{Flavour}
 use Rattle.desk_exports.specs.declared.entry.Terms.{Terms as MountTerms}
 use Rattle.page_html.specs.Escaping.{attribute, escaped}
 use Rattle.page_html.specs.Numbers.{number}
 use Rattle.page_html.specs.Pieces.{code, code_list, line_link, system_link}
-use Rattle.page_html.specs.Ranges.{ends_of, range_text, ranges_text}
-use Rattle.page_html.specs.Terms.{terms_words}
+use Rattle.page_html.specs.Ranges.{ends_of, network_text, range_text, ranges_text}
+use Rattle.page_html.specs.Terms.{flavour_names, flavours_words, terms_words}
 use Rattle.page_html.specs.declared.ranges.Span.{Span}
 use Rattle.page_html.specs.PartAmounts.{more, part_of, plural}
 use Rattle.page_html.specs.PartPieces.{badge, code_line, digest, level, link, small, small_count, small_percent, small_plural, some_codes, strong, system_line, word, zero}
@@ -36,9 +37,12 @@ pub data OwnPart : Type 0 where
   SmallPercent : ℕ → ℕ → OwnPart
   LineLink : ℕ → ℕ → OwnPart
   Drawn : List ℕ → OwnPart
+  Network : ℕ → ℕ → OwnPart
   Range : Span → OwnPart
   Ranges : List Span → OwnPart
   Terms : MountTerms → OwnPart
+  Flavours : List Flavour → OwnPart
+  FlavourNames : List Flavour → OwnPart
 
 -- A part, in which a site's texts are of a type. What is said for every such type does not look into a text.
 pub data Item (T : Type 0) : Type 0 where
@@ -75,9 +79,12 @@ own_html (SmallPlural count one several) = small_plural count one several
 own_html (SmallPercent count whole) = small_percent count whole
 own_html (LineLink fs line) = line_link fs line
 own_html (Drawn image) = image
+own_html (Network first prefix) = network_text first prefix
 own_html (Range span) = range_text (ends_of span)
 own_html (Ranges spans) = ranges_text spans
 own_html (Terms terms) = terms_words terms
+own_html (Flavours flavours) = flavours_words flavours
+own_html (FlavourNames flavours) = flavour_names flavours
 
 -- a text of a site stands in `code`, alone only where all around it is in `code`
 abbrev pub item_html : Item (List ℕ) → List ℕ

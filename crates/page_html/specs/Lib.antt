@@ -1,6 +1,7 @@
 pub mod PartAmounts
 pub mod Blocks
 pub mod Head
+pub mod Images
 pub mod Items
 pub mod Laws
 pub mod Pages
@@ -10,7 +11,6 @@ pub mod Tables
 pub mod Titles
 pub mod Amounts
 pub mod Escaping
-pub mod Facts
 pub mod TextLaws
 pub mod Numbers
 pub mod Pieces

@@ -1,7 +1,8 @@
 -- The parts as the program lends them: `&'static str` is a word of the page's own, and each other text is a site's. (this project's own)
 use Rattle.std.specs.Prelude.{ℕ, List, map}
-use Rattle.std.specs.String.{string_bytes}
-use Rattle.page_html.specs.Items.{Item, Words, Strong, Zero, Small, Word, Badge, Level, Link, Nothing, Space, Break, NewLine, Number, Digits, Plural, PartOf, AndMore, SmallCount, SmallPlural, SmallPercent, LineLink, Drawn, Range, Ranges, Terms, Own, Text, Code, Digest, Codes, SomeCodes, Line, System, SystemLine}
+use Rattle.desk_text.specs.Address.{number_of}
+use Rattle.page_html.specs.Images.{image_html}
+use Rattle.page_html.specs.Items.{Item, Words, Strong, Zero, Small, Word, Badge, Level, Link, Nothing, Space, Break, NewLine, Number, Digits, Plural, PartOf, AndMore, SmallCount, SmallPlural, SmallPercent, LineLink, Drawn, Network, Range, Ranges, Terms, Flavours, FlavourNames, Own, Text, Code, Digest, Codes, SomeCodes, Line, System, SystemLine}
 use Rattle.page_html.specs.declared.parts.Part.{Part}
 use Rattle.page_html.specs.declared.parts.Part.TheVariants as lent
 
@@ -28,10 +29,13 @@ item_of (lent.SmallCount count words) = Own (SmallCount count words.now)
 item_of (lent.SmallPlural count one more) = Own (SmallPlural count one.now more.now)
 item_of (lent.SmallPercent count whole) = Own (SmallPercent count whole)
 item_of (lent.LineLink fs line) = Own (LineLink fs.0 line)
-item_of (lent.Drawn drawn) = Own (Drawn (string_bytes drawn.now.html))
+item_of (lent.Drawn drawn) = Own (Drawn (image_html drawn.now))
+item_of (lent.Network first prefix) = Own (Network (number_of first) prefix)
 item_of (lent.Range span) = Own (Range span)
 item_of (lent.Ranges spans) = Own (Ranges spans.now)
 item_of (lent.Terms terms) = Own (Terms terms.now)
+item_of (lent.Flavours flavours) = Own (Flavours flavours.now)
+item_of (lent.FlavourNames flavours) = Own (FlavourNames flavours.now)
 item_of (lent.Text text) = Text text.now
 item_of (lent.Code text) = Code text.now
 item_of (lent.Digest text) = Digest text.now

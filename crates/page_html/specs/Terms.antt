@@ -24,6 +24,10 @@ flavour_words flavour = flavour_meaning flavour ++ codes " (" ++ flavour_word fl
 abbrev pub flavours_words : List Flavour → List ℕ
 flavours_words flavours = join_by flavour_words (codes " or ") flavours
 
+-- their names, as a line writes them
+abbrev pub flavour_names : List Flavour → List ℕ
+flavour_names flavours = codes "<code>" ++ join_by flavour_word (codes ":") flavours ++ codes "</code>"
+
 -- who acts as whom
 abbrev pub mapping_words : Mapping → List ℕ
 mapping_words (Root cred) =

@@ -56,7 +56,7 @@ pub fn push_portion(
 fn push_all_but(alloc: Global, count: u64, page: &mut String) -> Result<(), AllocError>
     ensures { OnOk result (string_bytes page.new ≡ string_bytes page.old ++ spec.all_but count) }
 {
-    page.push_str("all but&nbsp;")?;
+    page.push_str("all&nbsp;but&nbsp;")?;
     push_number(alloc, count, page)?;
     Ok(())
 }

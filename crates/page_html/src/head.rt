@@ -41,7 +41,7 @@ fn push_policy(page: &mut String) -> Result<(), AllocError>
     ensures { OnOk result (string_bytes page.new ≡ string_bytes page.old ++ spec.policy) }
 {
     page.push_str(
-        "default-src 'none'; style-src 'sha256-f+YsKoOLF425WIWyC22A3CXI89pvYeT01qxdXKv6CfQ='",
+        "default-src 'none'; style-src 'sha256-4rdn4sO52TbfG+mO+vk3R53Tm58Fof8PUx7CskmmetY='",
     )
 }
 

@@ -2,13 +2,14 @@
 
 ghost use Rattle.std.specs.Prelude.{◌≡◌, ◌++◌, [], OnOk};
 ghost use Rattle.std.specs.Fmt.{decimal};
-ghost use Rattle.std.specs.String.{string_bytes};
-ghost use Rattle.page_html.specs.Numbers.{number};
+ghost use Rattle.page_html.specs.Images.{image_html};
+ghost use Rattle.page_html.specs.Items.{items_html};
+ghost use Rattle.page_html.specs.Parts.{items_of};
 
-use crate::numbers::push_number;
+use crate::parts::{Part, push_parts};
 use std::alloc::{AllocError, Global};
 
-/// An image, which can be made of HTML of the page's own and of numbers alone.
+/// An image, which can be made of HTML and parts of the page's own alone.
 #[derive(Drop)]
 pub struct Drawn {
     pub(crate) html: String,
@@ -17,7 +18,7 @@ pub struct Drawn {
 impl Drawn {
     /// Makes an image of nothing.
     pub fn new(alloc: Global) -> Drawn
-        ensures { string_bytes result.html ≡ [] }
+        ensures { image_html result ≡ [] }
     {
         Drawn {
             html: String::new(alloc),
@@ -26,22 +27,22 @@ impl Drawn {
 
     /// Adds HTML of the page's own.
     pub fn push_fixed(&mut self, html: &'static str) -> Result<(), AllocError>
-        ensures { OnOk result (string_bytes self.new.html ≡ string_bytes self.old.html ++ html.now) }
+        ensures { OnOk result (image_html self.new ≡ image_html self.old ++ html.now) }
     {
         self.html.push_str(html)
     }
 
     /// Adds a number in digits alone.
-    pub fn push_digits(&mut self, digits: u32) -> Result<(), AllocError>
-        ensures { OnOk result (string_bytes self.new.html ≡ string_bytes self.old.html ++ decimal digits) }
+    pub fn push_digits(&mut self, digits: u64) -> Result<(), AllocError>
+        ensures { OnOk result (image_html self.new ≡ image_html self.old ++ decimal digits) }
     {
         write!(self.html, "{digits}")
     }
 
-    /// Adds a number with a comma before each three digits.
-    pub fn push_number(&mut self, alloc: Global, count: u64) -> Result<(), AllocError>
-        ensures { OnOk result (string_bytes self.new.html ≡ string_bytes self.old.html ++ number count) }
+    /// Adds parts of the page's own: a text of a site is not lent for as long as the program runs.
+    pub fn push_parts(&mut self, alloc: Global, parts: &[Part<'static>]) -> Result<(), AllocError>
+        ensures { OnOk result (image_html self.new ≡ image_html self.old ++ items_html (items_of parts.now)) }
     {
-        push_number(alloc, count, &mut self.html)
+        push_parts(alloc, parts, &mut self.html)
     }
 }

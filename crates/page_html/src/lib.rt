@@ -10,7 +10,6 @@
 pub mod amounts;
 pub mod blocks;
 pub mod escaping;
-pub mod facts;
 pub mod head;
 pub mod images;
 pub mod laws;
@@ -30,7 +29,6 @@ pub mod titles;
 pub use amounts::{push_and_more, push_percent, push_plural, push_portion};
 pub use blocks::{Element, Tag, push_element, push_facts, push_fixed, push_system_start, push_tag};
 pub use escaping::{push_attribute, push_escaped, push_escaped_line};
-pub use facts::{push_guarded, push_in_force, push_kept_by, push_revision};
 pub use head::push_page_head;
 pub use images::Drawn;
 pub use laws::{
@@ -42,8 +40,11 @@ pub use pieces::{
     push_box_start, push_code, push_code_list, push_line_link, push_system_link, push_zero,
 };
 pub use ranges::{Span, push_network, push_range, push_ranges};
-pub use tables::{Column, Frame, push_line_row, push_marked_row, push_row, push_table_start};
+pub use tables::{
+    Column, Frame, four_cells, push_cells, push_line_row, push_marked_row, push_row,
+    push_table_start,
+};
 pub use terms::{push_flavours, push_terms};
 pub use text_laws::{no_text_is_markup, texts_are_told_apart};
-pub use text_rows::{push_count_cell, push_line_cell, push_row_start};
+pub use text_rows::push_count_cell;
 pub use titles::Title;

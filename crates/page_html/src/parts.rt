@@ -14,11 +14,11 @@ use crate::part_pieces::{
     push_some_codes, push_system_line, push_within,
 };
 use crate::pieces::{push_code, push_code_list, push_line_link, push_system_link};
-use crate::ranges::{Span, push_range, push_ranges};
-use crate::terms::push_terms;
-use desk_exports::Terms;
+use crate::ranges::{Span, push_network, push_range, push_ranges};
+use crate::terms::{push_flavour_names, push_flavours, push_terms};
+use desk_exports::{Flavour, Terms};
 use desk_tables::FsId;
-use desk_text::Text;
+use desk_text::{Addr, Text};
 use std::alloc::{AllocError, Global};
 
 /// A part. Its own words are `'static`, and no character of them is markup; what a site has written comes in by `Text` and those below it.
@@ -56,9 +56,14 @@ pub enum Part<'a> {
     SmallPercent(u64, u64),
     LineLink(FsId, u32),
     Drawn(&'a Drawn),
+    /// A network, by its first address and its prefix, also that of one address.
+    Network(Addr, u8),
     Range(Span),
     Ranges(&'a [Span]),
     Terms(&'a Terms),
+    /// Flavours in words, and their names as a line writes them.
+    Flavours(&'a [Flavour]),
+    FlavourNames(&'a [Flavour]),
     /// A text without an element, for what is all commands.
     Text(&'a str),
     Code(&'a str),
@@ -106,9 +111,12 @@ pub fn push_part(alloc: Global, part: Part<'_>, page: &mut String) -> Result<(),
         Part::SmallPercent(count, whole) => push_small_percent(count, whole, page),
         Part::LineLink(fs, line) => push_line_link(fs, line, page),
         Part::Drawn(drawn) => page.push_str(drawn.html.as_str()),
+        Part::Network(first, prefix) => push_network(first, prefix, page),
         Part::Range(span) => push_range(span.first, span.last, page),
         Part::Ranges(spans) => push_ranges(alloc, spans, page),
         Part::Terms(terms) => push_terms(terms, page),
+        Part::Flavours(flavours) => push_flavours(flavours, page),
+        Part::FlavourNames(flavours) => push_flavour_names(flavours, page),
         Part::Text(text) => push_escaped(text, page),
         Part::Code(text) => push_code(text, page),
         Part::Digest(text) => push_digest(text, page),

@@ -1,6 +1,6 @@
 //! Tables of the page: each has its columns beside its cells.
 
-ghost use Rattle.std.specs.Prelude.{◌≡◌, ◌++◌, OnOk, length, map};
+ghost use Rattle.std.specs.Prelude.{◌≡◌, ◌++◌, ◌∷◌, [], OnOk, length, map};
 ghost use Rattle.std.specs.String.{string_bytes};
 ghost use Rattle.page_html.specs.Parts.{items_of};
 ghost use Rattle.page_html.specs.Tables as spec;
@@ -30,6 +30,18 @@ pub struct Frame {
     pub class: &'static str,
     pub is_titled: bool,
     pub columns: &'static [Column],
+}
+
+/// Makes a row of four cells.
+pub fn four_cells<'a>(
+    first: &'a [Part<'a>],
+    second: &'a [Part<'a>],
+    third: &'a [Part<'a>],
+    fourth: &'a [Part<'a>],
+) -> [&'a [Part<'a>]; 4]
+    ensures { map (λ cell. items_of cell.now) result ≡ items_of first.now ∷ items_of second.now ∷ items_of third.now ∷ items_of fourth.now ∷ [] }
+{
+    [first, second, third, fourth]
 }
 
 /// Adds a row, with a cell for each column.
@@ -111,8 +123,8 @@ fn push_line_row_start(
     page.push_str(mark_end(is_marked))
 }
 
-/// Adds the cells of a row.
-pub(crate) fn push_cells(
+/// Adds the cells of a row, or some of them.
+pub fn push_cells(
     alloc: Global,
     columns: &[Column],
     cells: &[&[Part<'_>]],

@@ -1,8 +1,9 @@
 //! The terms of a mount in words.
 
 ghost use Rattle.std.specs.Prelude.{◌≡◌, ◌++◌, OnOk, codes};
-ghost use Rattle.std.specs.List.{flat_map};
+ghost use Rattle.std.specs.List.{flat_map, join_by};
 ghost use Rattle.std.specs.String.{string_bytes};
+ghost use Rattle.desk_exports.specs.Flavours.{flavour_word};
 ghost use Rattle.page_html.specs.Terms as spec;
 
 use desk_exports::{Flavour, Mapping, Terms};
@@ -52,6 +53,40 @@ fn push_others(flavours: &[Flavour], page: &mut String) -> Result<(), AllocError
     for flavour in flavours {
         page.push_str(" or ")?;
         push_flavour(*flavour, page)?;
+    }
+    Ok(())
+}
+
+/// Adds the names of flavours, as a line writes them.
+pub(crate) fn push_flavour_names(flavours: &[Flavour], page: &mut String) -> Result<(), AllocError>
+    ensures { OnOk result (string_bytes page.new ≡ string_bytes page.old ++ spec.flavour_names flavours.now) }
+{
+    page.push_str("<code>")?;
+    push_names(flavours, page)?;
+    page.push_str("</code>")
+}
+
+/// Adds the names.
+fn push_names(flavours: &[Flavour], page: &mut String) -> Result<(), AllocError>
+    ensures { OnOk result (string_bytes page.new ≡ string_bytes page.old ++ join_by flavour_word (codes ":") flavours.now) }
+{
+    match flavours {
+        [] => Ok(()),
+        [first, others @ ..] => {
+            page.push_str(first.word())?;
+            push_later_names(others, page)
+        }
+    }
+}
+
+/// Adds the names behind the first.
+fn push_later_names(flavours: &[Flavour], page: &mut String) -> Result<(), AllocError>
+    ensures { OnOk result (string_bytes page.new
+        ≡ string_bytes page.old ++ flat_map (λ flavour. codes ":" ++ flavour_word flavour) flavours.now) }
+{
+    for flavour in flavours {
+        page.push_str(":")?;
+        page.push_str(flavour.word())?;
     }
     Ok(())
 }

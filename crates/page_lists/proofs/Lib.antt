@@ -1,5 +1,5 @@
 mod Counting
-mod Gathering
+pub mod Gathering
 mod HostNames
 pub mod Kept
 pub mod Keyed

@@ -1,7 +1,7 @@
 -- What a cell of a table names. (this project's own)
 use Rattle.std.specs.Prelude.{ℕ, ◌==◌, List, [], ◌∷◌, ◌++◌, codes, drop, length, take, if◌then◌else◌}
 use Rattle.std.specs.List.{flat_map}
-use Rattle.page_html.specs.Items.{AndMore, Item, Nothing, Words, Own, Code, SystemLine, items_html}
+use Rattle.page_html.specs.Items.{AndMore, Item, Nothing, Words, Own, Code, SystemLine}
 use Rattle.page_html.specs.Items as items
 use Rattle.page_lists.specs.declared.mentions.Mention.{Mention}
 use Rattle.page_lists.specs.declared.mentions.Mention.TheVariants.{Group, Host, Line, System}
@@ -35,9 +35,6 @@ all_of (first ∷ others) = mention first ++ flat_map later others
 -- so many of them at the most, and how many more there are
 abbrev pub some_items : ℕ → List Mention → List (Item (List ℕ))
 some_items most mentions = all_of (take most mentions) ++ Own (AndMore (length (drop most mentions))) ∷ []
-
-unfoldable pub some_of : ℕ → List Mention → List ℕ
-some_of most mentions = items_html (some_items most mentions)
 
 -- the same, or what is said if none are
 abbrev pub some_or : ℕ → Item (List ℕ) → List Mention → List (Item (List ℕ))

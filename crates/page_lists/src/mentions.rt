@@ -2,12 +2,11 @@
 
 ghost use Rattle.std.specs.Prelude.{◌≡◌, ◌++◌, IfOk, OnOk, map};
 ghost use Rattle.std.specs.List.{flat_map};
-ghost use Rattle.std.specs.String.{string_bytes};
 ghost use Rattle.page_html.specs.Parts.{item_of};
 ghost use Rattle.page_lists.specs.Mentions as spec;
 
 use desk_tables::FsId;
-use page_html::{Part, push_parts};
+use page_html::Part;
 use std::alloc::{AllocError, Global};
 
 /// What a cell names.
@@ -21,19 +20,6 @@ pub enum Mention<'a> {
     Host(&'a str),
     /// A netgroup that is a member of another one.
     Group(&'a str),
-}
-
-/// Adds the first of what a cell names, and how many more there are.
-pub fn push_some(
-    alloc: Global,
-    mentions: &[Mention<'_>],
-    most: usize,
-    page: &mut String,
-) -> Result<(), AllocError>
-    ensures { OnOk result (string_bytes page.new ≡ string_bytes page.old ++ spec.some_of most mentions.now) }
-{
-    let parts = some_parts(alloc, mentions, most)?;
-    push_parts(alloc, parts.as_slice(), page)
 }
 
 /// Gathers the first of what a cell names, and how many more there are; or what it says if that is nothing.
@@ -55,7 +41,7 @@ pub(crate) fn some_or<'a>(
 }
 
 /// Gathers the first of what a cell names, and how many more there are.
-fn some_parts<'a>(
+pub fn some_parts<'a>(
     alloc: Global,
     mentions: &[Mention<'a>],
     most: usize,

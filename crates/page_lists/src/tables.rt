@@ -48,7 +48,7 @@ pub(crate) fn number_of<'a>(number: u32) -> Part<'a>
 }
 
 /// Makes a row of five cells.
-pub(crate) fn five_cells<'a>(
+pub fn five_cells<'a>(
     first: &'a [Part<'a>],
     second: &'a [Part<'a>],
     third: &'a [Part<'a>],

@@ -14,6 +14,7 @@ pub mod Exact
 mod Ends
 mod Gaining
 mod Grounds
+mod Itemed
 mod Ranged
 mod Sized
 mod Spans

@@ -1,14 +1,13 @@
 -- A map as an image. (this project's own, over SVG and HTML)
-use Rattle.std.specs.Prelude.{ℕ, ◌==◌, ◌&&◌, Bool, not, List, [], ◌++◌, codes, map, if◌then◌else◌}
+use Rattle.std.specs.Prelude.{ℕ, ◌==◌, ◌&&◌, Bool, not, List, [], ◌∷◌, ◌++◌, codes, map, if◌then◌else◌}
 use Rattle.std.specs.List.{list_any}
 use Rattle.desk_text.specs.Network.{Block, block_size}
 use Rattle.page_data.specs.Class.{same_class}
 use Rattle.page_data.specs.declared.class.Class.{Class}
 use Rattle.page_data.specs.declared.class.Class.TheVariants.{Denied, ReadOnly, ReadWrite, RootKept}
 use Rattle.page_maps.specs.declared.cells.Cell.{Cell}
-use Rattle.page_html.specs.Numbers.{number}
-use Rattle.page_html.specs.Ranges.{network_text}
 use Rattle.page_findings.specs.Badges.{count_words}
+use Rattle.page_html.specs.Items.{Item, Network, Number, Own, Words, items_html}
 use Rattle.page_maps.specs.Paths.{ground_path, mark_path}
 use Rattle.page_maps.specs.declared.drawn_maps.DrawnMap.{DrawnMap}
 use Rattle.page_maps.specs.declared.paths.Shape.{Shape}
@@ -63,12 +62,16 @@ marks cells =
 abbrev pub map_paths : List Cell → List ℕ
 map_paths cells = grounds cells ++ marks cells
 
+-- a network, which has its prefix even if it is one address
+abbrev pub network_item : Block → Item (List ℕ)
+network_item network = Own (Network network.first network.prefix)
+
 -- what is said to those who do not see the map, as `Map of 10.0.0.0/8: read-only 256, of 16,777,216 addresses`
 abbrev pub label_start : Block → List ℕ
-label_start network = codes "Map of " ++ network_text network.first network.prefix ++ codes ": "
+label_start network = items_html (Own (Words (codes "Map of ")) ∷ network_item network ∷ Own (Words (codes ": ")) ∷ [])
 
 abbrev pub label_end : Block → List ℕ
-label_end network = codes ", of " ++ number (block_size network.prefix) ++ codes " addresses"
+label_end network = items_html (Own (Words (codes ", of ")) ∷ Own (Number (block_size network.prefix)) ∷ Own (Words (codes " addresses")) ∷ [])
 
 abbrev pub label : DrawnMap → List ℕ
 label drawn = label_start drawn.network ++ count_words drawn.counts ++ label_end drawn.network

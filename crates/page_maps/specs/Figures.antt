@@ -1,55 +1,65 @@
 -- The maps of a part of the page. (this project's own, over HTML)
-use Rattle.std.specs.Prelude.{◌≡◌, ℕ, ◌==◌, List, [], ◌∷◌, ◌++◌, codes, count_by, drop, length, take, if◌then◌else◌}
-use Rattle.std.specs.Fmt.{decimal}
-use Rattle.std.specs.List.{flat_map, join_by}
+use Rattle.std.specs.Prelude.{◌≡◌, ℕ, ◌==◌, ◌&&◌, ◌||◌, List, [], ◌∷◌, ◌++◌, codes, count_by, drop, length, take, if◌then◌else◌}
+use Rattle.std.specs.List.{flat_map}
 use Rattle.desk_text.specs.Network.{Block, block_size}
 use Rattle.desk_who.specs.Runs.{Run}
 use Rattle.page_data.specs.Counts.{granted_of}
 use Rattle.page_data.specs.declared.class.Class.{Class}
 use Rattle.page_maps.specs.Maps.{AreMapsFrom, fixed_maps, maps_with_fixed}
-use Rattle.page_html.specs.Amounts.{part, plural}
-use Rattle.page_html.specs.Ranges.{network_text}
-use Rattle.page_maps.specs.Drawing.{large_map, small_map}
+use Rattle.page_html.specs.Blocks.{element_html, tag_html}
+use Rattle.page_html.specs.Items.{Item, Drawn, Nothing, Own, PartOf, Plural, Words, items_html}
+use Rattle.page_html.specs.declared.blocks.Element.TheVariants.{Cut, Figure}
+use Rattle.page_html.specs.declared.blocks.Tag.TheVariants.{MapsEnd, MapsStart}
+use Rattle.page_maps.specs.Drawing.{large_map, network_item, small_map}
 use Rattle.page_maps.specs.DrawnMaps.{AreDrawnFrom}
 use Rattle.page_maps.specs.declared.drawn_maps.DrawnMap.{DrawnMap}
 
 -- what a network is called below its map
-abbrev pub network_name : Block → List ℕ
-network_name network = if network.prefix == 0 then codes "all of IPv4" else network_text network.first network.prefix
+abbrev pub name_item : Block → Item (List ℕ)
+name_item network = if network.prefix == 0 then Own (Words (codes "all of IPv4")) else network_item network
 
 -- how many of its addresses may mount something
 abbrev pub caption : DrawnMap → List ℕ
 caption drawn =
-    codes "<figcaption><b>" ++ network_name drawn.network ++ codes "</b> " ++ part (granted_of drawn.counts) (block_size drawn.network.prefix)
-    ++ codes " may</figcaption>"
+    codes "<figcaption><b>" ++ items_html (name_item drawn.network ∷ []) ++ codes "</b> "
+    ++ items_html (Own (PartOf (granted_of drawn.counts) (block_size drawn.network.prefix)) ∷ []) ++ codes " may</figcaption>"
+
+-- a map with its caption
+abbrev pub figure_image : DrawnMap → List ℕ
+figure_image drawn = large_map drawn ++ caption drawn
 
 abbrev pub figure : DrawnMap → List ℕ
-figure drawn = codes "<figure>" ++ large_map drawn ++ caption drawn ++ codes "</figure>\n"
+figure drawn = element_html Figure (Own (Drawn (figure_image drawn)) ∷ [])
 
 -- how many of the networks are of a prefix
 abbrev pub count_of : ℕ → List Block → ℕ
 count_of prefix networks = count_by (λ network. network.prefix == prefix) networks
 
-abbrev pub kind : List Block → ℕ → List ℕ
-kind networks prefix = plural (count_of prefix networks) (codes "network") (codes "networks") ++ codes " /" ++ decimal prefix
+-- so many networks, of which prefix they are, and a comma between them and those of one or two other prefixes; nothing, if there are none
+abbrev pub count_item : ℕ → Item (List ℕ)
+count_item count = if count == 0 then Own Nothing else Own (Plural count (codes "network") (codes "networks"))
 
--- a prefix, if some of the networks are of it
-abbrev pub if_any : List Block → ℕ → List ℕ
-if_any networks prefix = if count_of prefix networks == 0 then [] else prefix ∷ []
+abbrev pub prefix_item : ℕ → List ℕ → Item (List ℕ)
+prefix_item count prefix = if count == 0 then Own Nothing else Own (Words prefix)
 
--- the prefixes of maps that are not fixed, as far as some of the networks are of them
-unfoldable pub prefixes_of : List Block → List ℕ
-prefixes_of networks = if_any networks 8 ++ if_any networks 16 ++ if_any networks 24
+abbrev pub comma_item : ℕ → ℕ → ℕ → Item (List ℕ)
+comma_item first second count = if count == 0 || (first == 0 && second == 0) then Own Nothing else Own (Words (codes ", "))
 
--- how many of the networks are of which prefix, as `1 network /8, 3 networks /24`
-abbrev pub kinds : List Block → List ℕ
-kinds networks = join_by (kind networks) (codes ", ") (prefixes_of networks)
+-- so many networks of the prefixes that maps have which are not fixed, as `1 network /8, 3 networks /24`
+abbrev pub kinds : ℕ → ℕ → ℕ → List (Item (List ℕ))
+kinds wide middle narrow =
+    count_item wide ∷ prefix_item wide (codes " /8")
+    ∷ comma_item wide 0 middle ∷ count_item middle ∷ prefix_item middle (codes " /16")
+    ∷ comma_item wide middle narrow ∷ count_item narrow ∷ prefix_item narrow (codes " /24") ∷ []
 
--- how many maps are not drawn
+-- how many maps are not drawn, and how many of them are of which prefix
+abbrev pub cut_items : List Block → List (Item (List ℕ))
+cut_items networks =
+    Own (Plural (length networks) (codes "more map is") (codes "more maps are")) ∷ Own (Words (codes " not drawn: "))
+    ∷ kinds (count_of 8 networks) (count_of 16 networks) (count_of 24 networks) ++ Own (Words (codes ".")) ∷ []
+
 abbrev pub cut : List Block → List ℕ
-cut networks =
-    codes "<p class=\"cut\">" ++ plural (length networks) (codes "more map is") (codes "more maps are") ++ codes " not drawn: " ++ kinds networks
-    ++ codes ".</p>\n"
+cut networks = element_html Cut (cut_items networks)
 
 abbrev pub not_drawn : List Block → List ℕ
 not_drawn networks = if length networks == 0 then [] else cut networks
@@ -59,7 +69,7 @@ unfoldable pub each_figure : List DrawnMap → List ℕ
 each_figure drawn = flat_map figure drawn
 
 abbrev pub figures : List DrawnMap → List Block → List ℕ
-figures drawn rest = codes "<div class=\"maps\">\n" ++ each_figure drawn ++ codes "</div>\n" ++ not_drawn rest
+figures drawn rest = tag_html MapsStart ++ each_figure drawn ++ tag_html MapsEnd ++ not_drawn rest
 
 -- a page gains the maps of the first so many networks, and is told how many others there are
 pub record GainsMaps (runs : List (Run Class)) (most : ℕ) (networks : List Block) (page gained : List ℕ) : Type 0 where

@@ -22,11 +22,17 @@ begins_at which place = is_meant which place && not (is_meant_before which place
 abbrev pub length_from : List Bool → ℕ → ℕ
 length_from which place = position_or_len not (drop place which)
 
+-- where a shape begins, and a side of it, as many cells long, by the way in which it goes
+abbrev pub place : ℕ → ℕ → List ℕ
+place x y = codes "M" ++ decimal x ++ codes " " ++ decimal y
+
+abbrev pub side : List ℕ → ℕ → List ℕ
+side way cells = way ++ decimal (4 * cells)
+
 -- a rectangle, by its left and its upper edge, its width and its height, all counted in cells
 abbrev pub rectangle : ℕ → ℕ → ℕ → ℕ → List ℕ
 rectangle left top width height =
-    codes "M" ++ decimal (4 * left) ++ codes " " ++ decimal (4 * top) ++ codes "h" ++ decimal (4 * width) ++ codes "v" ++ decimal (4 * height)
-    ++ codes "h-" ++ decimal (4 * width) ++ codes "z"
+    place (4 * left) (4 * top) ++ side (codes "h") width ++ side (codes "v") height ++ side (codes "h-") width ++ codes "z"
 
 -- a row of a map
 abbrev pub row_of : List Bool → ℕ → List Bool
@@ -62,8 +68,8 @@ ground_path which = flat_map (row_path which (whole_rows which)) (range_with_len
 
 -- a square in the middle of a cell, and a diamond as large as the cell
 abbrev pub shape : Shape → ℕ → ℕ → List ℕ
-shape Square x y = codes "M" ++ decimal (4 * x + 1) ++ codes " " ++ decimal (4 * y + 1) ++ codes "h2v2h-2z"
-shape Diamond x y = codes "M" ++ decimal (4 * x + 2) ++ codes " " ++ decimal (4 * y) ++ codes "l2 2-2 2-2-2z"
+shape Square x y = place (4 * x + 1) (4 * y + 1) ++ codes "h2v2h-2z"
+shape Diamond x y = place (4 * x + 2) (4 * y) ++ codes "l2 2-2 2-2-2z"
 
 -- the mark of a cell, if it is meant
 abbrev pub mark_at : List Bool → Shape → ℕ → List ℕ

@@ -2,34 +2,36 @@
 
 ghost use Rattle.std.specs.Prelude.{◌≡◌, ◌++◌, ◌≤◌, IfOk, OnOk, codes, length};
 ghost use Rattle.std.specs.List.{list_any};
-ghost use Rattle.std.specs.String.{string_bytes};
 ghost use Rattle.desk_text.specs.Network.{block_size};
 ghost use Rattle.page_data.specs.Class.{same_class};
+ghost use Rattle.page_findings.specs.Badges.{count_words};
+ghost use Rattle.page_html.specs.Images.{image_html};
+ghost use Rattle.page_html.specs.Parts.{item_of};
 ghost use Rattle.page_maps.specs.Drawing as spec;
 
 use crate::cells::Cell;
 use crate::drawn_maps::DrawnMap;
 use crate::paths::{Shape, push_ground_path, push_mark_path};
 use desk_text::Net;
-use page_data::Class;
-use page_findings::push_count_words;
-use page_html::{push_network, push_number};
+use page_data::{Class, Counts};
+use page_findings::{Measure, measured};
+use page_html::{Drawn, Part};
 use std::alloc::{AllocError, Global};
 
 /// Adds a map with the numbers of its rows, and a grid.
 pub(crate) fn push_large_map(
     alloc: Global,
     drawn: &DrawnMap,
-    page: &mut String,
+    image: &mut Drawn,
 ) -> Result<(), AllocError>
     requires { length drawn.now.cells ≡ 256 }
-    ensures { OnOk result (string_bytes page.new ≡ string_bytes page.old ++ spec.large_map drawn.now) }
+    ensures { OnOk result (image_html image.new ≡ image_html image.old ++ spec.large_map drawn.now) }
 {
-    page.push_str("<svg class=\"big\" viewBox=\"-15 -1 80 66\" role=\"img\" aria-label=\"")?;
-    push_label(alloc, drawn, page)?;
-    page.push_str(axis_of(drawn.network))?;
-    push_map_paths(alloc, drawn.cells.as_slice(), page)?;
-    page.push_str("<use href=\"#h\"/></svg>")?;
+    image.push_fixed("<svg class=\"big\" viewBox=\"-15 -1 80 66\" role=\"img\" aria-label=\"")?;
+    push_label(alloc, drawn, image)?;
+    image.push_fixed(axis_of(drawn.network))?;
+    push_map_paths(alloc, drawn.cells.as_slice(), image)?;
+    image.push_fixed("<use href=\"#h\"/></svg>")?;
     Ok(())
 }
 
@@ -37,16 +39,16 @@ pub(crate) fn push_large_map(
 pub(crate) fn push_small_map(
     alloc: Global,
     drawn: &DrawnMap,
-    page: &mut String,
+    image: &mut Drawn,
 ) -> Result<(), AllocError>
     requires { length drawn.now.cells ≡ 256 }
-    ensures { OnOk result (string_bytes page.new ≡ string_bytes page.old ++ spec.small_map drawn.now) }
+    ensures { OnOk result (image_html image.new ≡ image_html image.old ++ spec.small_map drawn.now) }
 {
-    page.push_str("<svg class=\"tiny\" viewBox=\"-1 -1 66 66\" role=\"img\" aria-label=\"")?;
-    push_label(alloc, drawn, page)?;
-    page.push_str("\"><use href=\"#g\"/>")?;
-    push_map_paths(alloc, drawn.cells.as_slice(), page)?;
-    page.push_str("</svg>")?;
+    image.push_fixed("<svg class=\"tiny\" viewBox=\"-1 -1 66 66\" role=\"img\" aria-label=\"")?;
+    push_label(alloc, drawn, image)?;
+    image.push_fixed("\"><use href=\"#g\"/>")?;
+    push_map_paths(alloc, drawn.cells.as_slice(), image)?;
+    image.push_fixed("</svg>")?;
     Ok(())
 }
 
@@ -62,33 +64,52 @@ fn axis_of(network: Net) -> &'static str
 }
 
 /// Adds what is said to those who do not see the map.
-fn push_label(alloc: Global, drawn: &DrawnMap, page: &mut String) -> Result<(), AllocError>
-    ensures { OnOk result (string_bytes page.new ≡ string_bytes page.old ++ spec.label drawn.now) }
+fn push_label(alloc: Global, drawn: &DrawnMap, image: &mut Drawn) -> Result<(), AllocError>
+    ensures { OnOk result (image_html image.new ≡ image_html image.old ++ spec.label drawn.now) }
 {
-    push_label_start(drawn.network, page)?;
-    push_count_words(alloc, &drawn.counts, page)?;
-    push_label_end(alloc, drawn.network, page)?;
+    push_label_start(alloc, drawn.network, image)?;
+    push_counts(alloc, &drawn.counts, image)?;
+    push_label_end(alloc, drawn.network, image)?;
     Ok(())
 }
 
 /// Adds which network it is.
-fn push_label_start(network: Net, page: &mut String) -> Result<(), AllocError>
-    ensures { OnOk result (string_bytes page.new ≡ string_bytes page.old ++ spec.label_start network) }
+fn push_label_start(alloc: Global, network: Net, image: &mut Drawn) -> Result<(), AllocError>
+    ensures { OnOk result (image_html image.new ≡ image_html image.old ++ spec.label_start network) }
 {
-    page.push_str("Map of ")?;
-    push_network(network.first(), network.prefix().get(), page)?;
-    page.push_str(": ")?;
-    Ok(())
+    let parts = [
+        Part::Words("Map of "),
+        network_part(network),
+        Part::Words(": "),
+    ];
+    image.push_parts(alloc, &parts)
+}
+
+/// Returns a network, which has its prefix even if it is one address.
+pub(crate) fn network_part<'a>(network: Net) -> Part<'a>
+    ensures { item_of result ≡ spec.network_item network }
+{
+    Part::Network(network.first(), network.prefix().get())
+}
+
+/// Adds how many of its addresses are of which class.
+fn push_counts(alloc: Global, counts: &Counts, image: &mut Drawn) -> Result<(), AllocError>
+    ensures { OnOk result (image_html image.new ≡ image_html image.old ++ count_words counts.now) }
+{
+    let parts = measured(alloc, Measure::Count, counts)?;
+    image.push_parts(alloc, parts.as_slice())
 }
 
 /// Adds how many addresses it has.
-fn push_label_end(alloc: Global, network: Net, page: &mut String) -> Result<(), AllocError>
-    ensures { OnOk result (string_bytes page.new ≡ string_bytes page.old ++ spec.label_end network) }
+fn push_label_end(alloc: Global, network: Net, image: &mut Drawn) -> Result<(), AllocError>
+    ensures { OnOk result (image_html image.new ≡ image_html image.old ++ spec.label_end network) }
 {
-    page.push_str(", of ")?;
-    push_number(alloc, size_of(network), page)?;
-    page.push_str(" addresses")?;
-    Ok(())
+    let parts = [
+        Part::Words(", of "),
+        Part::Number(size_of(network)),
+        Part::Words(" addresses"),
+    ];
+    image.push_parts(alloc, &parts)
 }
 
 /// Returns how many addresses a network has.
@@ -99,23 +120,23 @@ pub(crate) fn size_of(network: Net) -> u64
 }
 
 /// Adds the grounds of each class, and the marks of each.
-fn push_map_paths(alloc: Global, cells: &[Cell], page: &mut String) -> Result<(), AllocError>
+fn push_map_paths(alloc: Global, cells: &[Cell], image: &mut Drawn) -> Result<(), AllocError>
     requires { length cells.now ≡ 256 }
-    ensures { OnOk result (string_bytes page.new ≡ string_bytes page.old ++ spec.map_paths cells.now) }
+    ensures { OnOk result (image_html image.new ≡ image_html image.old ++ spec.map_paths cells.now) }
 {
-    push_grounds(alloc, cells, page)?;
-    push_marks(alloc, cells, page)?;
+    push_grounds(alloc, cells, image)?;
+    push_marks(alloc, cells, image)?;
     Ok(())
 }
 
 /// Adds the grounds of each class.
-fn push_grounds(alloc: Global, cells: &[Cell], page: &mut String) -> Result<(), AllocError>
+fn push_grounds(alloc: Global, cells: &[Cell], image: &mut Drawn) -> Result<(), AllocError>
     requires { length cells.now ≡ 256 }
-    ensures { OnOk result (string_bytes page.new ≡ string_bytes page.old ++ spec.grounds cells.now) }
+    ensures { OnOk result (image_html image.new ≡ image_html image.old ++ spec.grounds cells.now) }
 {
-    push_grounds_for(alloc, cells, Class::ReadOnly, page)?;
-    push_grounds_for(alloc, cells, Class::ReadWrite, page)?;
-    push_grounds_for(alloc, cells, Class::RootKept, page)?;
+    push_grounds_for(alloc, cells, Class::ReadOnly, image)?;
+    push_grounds_for(alloc, cells, Class::ReadWrite, image)?;
+    push_grounds_for(alloc, cells, Class::RootKept, image)?;
     Ok(())
 }
 
@@ -124,13 +145,13 @@ fn push_grounds_for(
     alloc: Global,
     cells: &[Cell],
     class: Class,
-    page: &mut String,
+    image: &mut Drawn,
 ) -> Result<(), AllocError>
     requires { length cells.now ≡ 256 }
-    ensures { OnOk result (string_bytes page.new ≡ string_bytes page.old ++ spec.ground_if_any class (spec.filled_for class cells.now)) }
+    ensures { OnOk result (image_html image.new ≡ image_html image.old ++ spec.ground_if_any class (spec.filled_for class cells.now)) }
 {
     let filled = filled_for(alloc, cells, class)?;
-    push_ground_if_any(alloc, filled.as_slice(), class, page)
+    push_ground_if_any(alloc, filled.as_slice(), class, image)
 }
 
 /// Tells of each cell whether it is filled for a class.
@@ -158,13 +179,13 @@ fn push_ground_if_any(
     alloc: Global,
     which: &[bool],
     class: Class,
-    page: &mut String,
+    image: &mut Drawn,
 ) -> Result<(), AllocError>
     requires { length which.now ≡ 256 }
-    ensures { OnOk result (string_bytes page.new ≡ string_bytes page.old ++ spec.ground_if_any class which.now) }
+    ensures { OnOk result (image_html image.new ≡ image_html image.old ++ spec.ground_if_any class which.now) }
 {
     if has_any(which) {
-        push_ground(alloc, which, class, page)
+        push_ground(alloc, which, class, image)
     } else {
         Ok(())
     }
@@ -182,16 +203,16 @@ fn push_ground(
     alloc: Global,
     which: &[bool],
     class: Class,
-    page: &mut String,
+    image: &mut Drawn,
 ) -> Result<(), AllocError>
     requires { length which.now ≡ 256 }
-    ensures { OnOk result (string_bytes page.new ≡ string_bytes page.old ++ spec.ground class which.now) }
+    ensures { OnOk result (image_html image.new ≡ image_html image.old ++ spec.ground class which.now) }
 {
-    page.push_str("<path class=\"")?;
-    page.push_str(letter_of(class))?;
-    page.push_str("\" d=\"")?;
-    push_ground_path(alloc, which, page)?;
-    page.push_str("\"/>")?;
+    image.push_fixed("<path class=\"")?;
+    image.push_fixed(letter_of(class))?;
+    image.push_fixed("\" d=\"")?;
+    push_ground_path(alloc, which, image)?;
+    image.push_fixed("\"/>")?;
     Ok(())
 }
 
@@ -208,13 +229,13 @@ fn letter_of(class: Class) -> &'static str
 }
 
 /// Adds the marks of each class.
-fn push_marks(alloc: Global, cells: &[Cell], page: &mut String) -> Result<(), AllocError>
+fn push_marks(alloc: Global, cells: &[Cell], image: &mut Drawn) -> Result<(), AllocError>
     requires { length cells.now ≡ 256 }
-    ensures { OnOk result (string_bytes page.new ≡ string_bytes page.old ++ spec.marks cells.now) }
+    ensures { OnOk result (image_html image.new ≡ image_html image.old ++ spec.marks cells.now) }
 {
-    push_marks_for(alloc, cells, Class::ReadOnly, page)?;
-    push_marks_for(alloc, cells, Class::ReadWrite, page)?;
-    push_marks_for(alloc, cells, Class::RootKept, page)?;
+    push_marks_for(alloc, cells, Class::ReadOnly, image)?;
+    push_marks_for(alloc, cells, Class::ReadWrite, image)?;
+    push_marks_for(alloc, cells, Class::RootKept, image)?;
     Ok(())
 }
 
@@ -223,13 +244,13 @@ fn push_marks_for(
     alloc: Global,
     cells: &[Cell],
     class: Class,
-    page: &mut String,
+    image: &mut Drawn,
 ) -> Result<(), AllocError>
     requires { length cells.now ≡ 256 }
-    ensures { OnOk result (string_bytes page.new ≡ string_bytes page.old ++ spec.mark_if_any class (spec.marked_for class cells.now)) }
+    ensures { OnOk result (image_html image.new ≡ image_html image.old ++ spec.mark_if_any class (spec.marked_for class cells.now)) }
 {
     let marked = marked_for(alloc, cells, class)?;
-    push_mark_if_any(marked.as_slice(), class, page)
+    push_mark_if_any(marked.as_slice(), class, image)
 }
 
 /// Tells of each cell whether it is marked for a class.
@@ -246,27 +267,27 @@ fn marked_for(alloc: Global, cells: &[Cell], class: Class) -> Result<Vec<bool>, 
 }
 
 /// Adds the path of marks, if any cell is marked.
-fn push_mark_if_any(which: &[bool], class: Class, page: &mut String) -> Result<(), AllocError>
+fn push_mark_if_any(which: &[bool], class: Class, image: &mut Drawn) -> Result<(), AllocError>
     requires { length which.now ≡ 256 }
-    ensures { OnOk result (string_bytes page.new ≡ string_bytes page.old ++ spec.mark_if_any class which.now) }
+    ensures { OnOk result (image_html image.new ≡ image_html image.old ++ spec.mark_if_any class which.now) }
 {
     if has_any(which) {
-        push_mark(which, class, page)
+        push_mark(which, class, image)
     } else {
         Ok(())
     }
 }
 
 /// Adds the path of marks.
-fn push_mark(which: &[bool], class: Class, page: &mut String) -> Result<(), AllocError>
+fn push_mark(which: &[bool], class: Class, image: &mut Drawn) -> Result<(), AllocError>
     requires { length which.now ≡ 256 }
-    ensures { OnOk result (string_bytes page.new ≡ string_bytes page.old ++ spec.mark class which.now) }
+    ensures { OnOk result (image_html image.new ≡ image_html image.old ++ spec.mark class which.now) }
 {
-    page.push_str("<path class=\"")?;
-    page.push_str(letter_of(class))?;
-    page.push_str(" k\" d=\"")?;
-    push_mark_path(which, shape_of(class), page)?;
-    page.push_str("\"/>")?;
+    image.push_fixed("<path class=\"")?;
+    image.push_fixed(letter_of(class))?;
+    image.push_fixed(" k\" d=\"")?;
+    push_mark_path(which, shape_of(class), image)?;
+    image.push_fixed("\"/>")?;
     Ok(())
 }
 

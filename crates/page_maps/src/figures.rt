@@ -1,22 +1,24 @@
 //! The maps of a part of the page.
 
-ghost use Rattle.std.specs.Prelude.{◌≡◌, ◌++◌, ◌≤◌, ◌^◌, All, IfOk, OnOk, codes, map};
-ghost use Rattle.std.specs.List.{flat_map};
+ghost use Rattle.std.specs.Prelude.{◌≡◌, ◌++◌, All, IfOk, OnOk, map};
 ghost use Rattle.std.specs.String.{string_bytes};
 ghost use Rattle.page_data.specs.Classes.{class_run};
 ghost use Rattle.page_data.specs.Values.{AreRunsOfSome};
+ghost use Rattle.page_html.specs.Images.{image_html};
+ghost use Rattle.page_html.specs.Parts.{item_of};
 ghost use Rattle.page_maps.specs.Maps.{IsWide};
+ghost use Rattle.page_maps.specs.Drawing.{small_map};
 ghost use Rattle.page_maps.specs.DrawnMaps.{IsDrawable};
 ghost use Rattle.page_maps.specs.Figures as spec;
 ghost use Rattle.page_maps.specs.PrivateFigures.{GainsCells, GainsFigures};
 
-use crate::drawing::{push_large_map, push_small_map, size_of};
+use crate::drawing::{network_part, push_large_map, push_small_map, size_of};
 use crate::drawn_maps::{DrawnMap, drawn_map};
 use crate::maps::{maps_of, with_fixed_maps};
 use desk_text::Net;
 use desk_who::Run;
 use page_data::Class;
-use page_html::{push_network, push_plural, push_portion};
+use page_html::{Drawn, Element, Part, Tag, push_element, push_fixed, push_part, push_tag};
 use std::alloc::{AllocError, Global};
 
 /// How many maps a file system has at most, and how many a group of directories: `most_of_file_system` and `most_of_group`.
@@ -80,9 +82,9 @@ fn push_maps(
     ensures { OnOk result (spec.GainsMaps (map class_run runs.now) most networks.now (string_bytes page.old) (string_bytes page.new)) }
 {
     let (shown, rest) = networks.split_at(most.min(networks.len()));
-    page.push_str("<div class=\"maps\">\n")?;
+    push_tag(Tag::MapsStart, page)?;
     push_figures(alloc, runs, shown, page)?;
-    page.push_str("</div>\n")?;
+    push_tag(Tag::MapsEnd, page)?;
     push_not_drawn(alloc, rest, page)?;
     Ok(())
 }
@@ -110,35 +112,44 @@ fn push_figure(alloc: Global, drawn: &DrawnMap, page: &mut String) -> Result<(),
     requires { IsDrawable drawn.now }
     ensures { OnOk result (string_bytes page.new ≡ string_bytes page.old ++ spec.figure drawn.now) }
 {
-    page.push_str("<figure>")?;
-    push_large_map(alloc, drawn, page)?;
-    push_caption(alloc, drawn, page)?;
-    page.push_str("</figure>\n")?;
+    let image = figure_image(alloc, drawn)?;
+    push_element(alloc, Element::Figure, &[Part::Drawn(&image)], page)?;
     Ok(())
+}
+
+/// Draws a map with its caption.
+fn figure_image(alloc: Global, drawn: &DrawnMap) -> Result<Drawn, AllocError>
+    requires { IsDrawable drawn.now }
+    ensures { IfOk result (λ image. image_html image ≡ spec.figure_image drawn.now) }
+{
+    let mut image = Drawn::new(alloc);
+    push_large_map(alloc, drawn, &mut image)?;
+    push_caption(alloc, drawn, &mut image)?;
+    Ok(image)
 }
 
 /// Adds what a network is called, and how many of its addresses may mount something.
-fn push_caption(alloc: Global, drawn: &DrawnMap, page: &mut String) -> Result<(), AllocError>
+fn push_caption(alloc: Global, drawn: &DrawnMap, image: &mut Drawn) -> Result<(), AllocError>
     requires { IsDrawable drawn.now }
-    ensures { OnOk result (string_bytes page.new ≡ string_bytes page.old ++ spec.caption drawn.now) }
+    ensures { OnOk result (image_html image.new ≡ image_html image.old ++ spec.caption drawn.now) }
 {
     let granted = drawn.counts.granted();
-    page.push_str("<figcaption><b>")?;
-    push_name(drawn.network, page)?;
-    page.push_str("</b> ")?;
-    push_portion(alloc, granted, size_of(drawn.network), page)?;
-    page.push_str(" may</figcaption>")?;
+    image.push_fixed("<figcaption><b>")?;
+    image.push_parts(alloc, &[name_part(drawn.network)])?;
+    image.push_fixed("</b> ")?;
+    image.push_parts(alloc, &[Part::PartOf(granted, size_of(drawn.network))])?;
+    image.push_fixed(" may</figcaption>")?;
     Ok(())
 }
 
-/// Adds what a network is called.
-fn push_name(network: Net, page: &mut String) -> Result<(), AllocError>
-    ensures { OnOk result (string_bytes page.new ≡ string_bytes page.old ++ spec.network_name network) }
+/// Returns what a network is called.
+fn name_part<'a>(network: Net) -> Part<'a>
+    ensures { item_of result ≡ spec.name_item network }
 {
     if network.prefix().get() == 0 {
-        page.push_str("all of IPv4")
+        Part::Words("all of IPv4")
     } else {
-        push_network(network.first(), network.prefix().get(), page)
+        network_part(network)
     }
 }
 
@@ -152,95 +163,60 @@ fn push_not_drawn(alloc: Global, networks: &[Net], page: &mut String) -> Result<
     push_cut(alloc, networks, page)
 }
 
-/// Adds how many maps are not drawn.
+/// Adds how many maps are not drawn, and how many of them are of which prefix.
 fn push_cut(alloc: Global, networks: &[Net], page: &mut String) -> Result<(), AllocError>
     ensures { OnOk result (string_bytes page.new ≡ string_bytes page.old ++ spec.cut networks.now) }
 {
-    page.push_str("<p class=\"cut\">")?;
-    push_plural(
-        alloc,
-        networks.len() as u64,
-        "more map is",
-        "more maps are",
-        page,
-    )?;
-    page.push_str(" not drawn: ")?;
-    push_kinds(alloc, networks, page)?;
-    page.push_str(".</p>\n")?;
-    Ok(())
+    let wide = count_of(networks, 8);
+    let middle = count_of(networks, 16);
+    let narrow = count_of(networks, 24);
+    let parts = [
+        Part::Plural(networks.len() as u64, "more map is", "more maps are"),
+        Part::Words(" not drawn: "),
+        count_part(wide),
+        prefix_part(wide, " /8"),
+        comma_part(wide, 0, middle),
+        count_part(middle),
+        prefix_part(middle, " /16"),
+        comma_part(wide, middle, narrow),
+        count_part(narrow),
+        prefix_part(narrow, " /24"),
+        Part::Words("."),
+    ];
+    push_element(alloc, Element::Cut, &parts, page)
 }
 
-/// Adds how many networks are of which prefix.
-fn push_kinds(alloc: Global, networks: &[Net], page: &mut String) -> Result<(), AllocError>
-    ensures { OnOk result (string_bytes page.new ≡ string_bytes page.old ++ spec.kinds networks.now) }
+/// Returns how many networks there are, if any.
+fn count_part<'a>(count: usize) -> Part<'a>
+    ensures { item_of result ≡ spec.count_item count }
 {
-    let prefixes = prefixes_of(alloc, networks)?;
-    match prefixes.as_slice() {
-        [] => Ok(()),
-        [first, others @ ..] => {
-            push_kind(alloc, networks, *first, page)?;
-            push_later_kinds(alloc, networks, others, page)
-        }
+    if count == 0 {
+        Part::Nothing
+    } else {
+        Part::Plural(count as u64, "network", "networks")
     }
 }
 
-/// Adds how many networks are of the prefixes behind the first.
-fn push_later_kinds(
-    alloc: Global,
-    networks: &[Net],
-    prefixes: &[u8],
-    page: &mut String,
-) -> Result<(), AllocError>
-    ensures { OnOk result (string_bytes page.new
-        ≡ string_bytes page.old ++ flat_map (λ prefix. codes ", " ++ spec.kind networks.now prefix) prefixes.now) }
+/// Returns of which prefix they are.
+fn prefix_part<'a>(count: usize, prefix: &'static str) -> Part<'a>
+    ensures { item_of result ≡ spec.prefix_item count prefix.now }
 {
-    for prefix in prefixes {
-        page.push_str(", ")?;
-        push_kind(alloc, networks, *prefix, page)?;
+    if count == 0 {
+        Part::Nothing
+    } else {
+        Part::Words(prefix)
     }
-    Ok(())
 }
 
-/// Adds how many networks are of a prefix.
-fn push_kind(
-    alloc: Global,
-    networks: &[Net],
-    prefix: u8,
-    page: &mut String,
-) -> Result<(), AllocError>
-    ensures { OnOk result (string_bytes page.new ≡ string_bytes page.old ++ spec.kind networks.now prefix) }
+/// Returns what stands between those of one or two other prefixes and these.
+fn comma_part<'a>(first: usize, second: usize, count: usize) -> Part<'a>
+    ensures { item_of result ≡ spec.comma_item first second count }
 {
-    push_plural(
-        alloc,
-        count_of(networks, prefix) as u64,
-        "network",
-        "networks",
-        page,
-    )?;
-    write!(page, " /{prefix}")?;
-    Ok(())
-}
-
-/// Gathers the prefixes that some networks are of.
-#[tactic(auto, unfolding(crate::specs::Figures::prefixes_of))]
-fn prefixes_of(alloc: Global, networks: &[Net]) -> Result<Vec<u8>, AllocError>
-    ensures { IfOk result (λ prefixes. prefixes.items ≡ spec.prefixes_of networks.now) }
-{
-    let mut prefixes = Vec::new(alloc);
-    push_if_any(&mut prefixes, networks, 8)?;
-    push_if_any(&mut prefixes, networks, 16)?;
-    push_if_any(&mut prefixes, networks, 24)?;
-    Ok(prefixes)
-}
-
-/// Adds a prefix, if some networks are of it.
-fn push_if_any(prefixes: &mut Vec<u8>, networks: &[Net], prefix: u8) -> Result<(), AllocError>
-    ensures { OnOk result (prefixes.new.items ≡ prefixes.old.items ++ spec.if_any networks.now prefix) }
-{
-    if count_of(networks, prefix) != 0 {
-        prefixes.push(prefix)?;
+    if count == 0 || (first == 0 && second == 0) {
+        Part::Nothing
+    } else {
+        Part::Words(", ")
     }
-    Ok(())
 }
 
 /// Counts the networks of a prefix.
@@ -276,8 +252,19 @@ fn push_small_cell(alloc: Global, drawn: &DrawnMap, page: &mut String) -> Result
     requires { IsDrawable drawn.now }
     ensures { OnOk result (string_bytes page.new ≡ string_bytes page.old ++ spec.small_cell drawn.now) }
 {
-    page.push_str("<td>")?;
-    push_small_map(alloc, drawn, page)?;
-    page.push_str("</td>")?;
+    let image = small_image(alloc, drawn)?;
+    push_fixed("<td>", page)?;
+    push_part(alloc, Part::Drawn(&image), page)?;
+    push_fixed("</td>", page)?;
     Ok(())
+}
+
+/// Draws a small map.
+fn small_image(alloc: Global, drawn: &DrawnMap) -> Result<Drawn, AllocError>
+    requires { IsDrawable drawn.now }
+    ensures { IfOk result (λ image. image_html image ≡ small_map drawn.now) }
+{
+    let mut image = Drawn::new(alloc);
+    push_small_map(alloc, drawn, &mut image)?;
+    Ok(image)
 }

@@ -1,228 +1,164 @@
-//! The cells of a row of the table of networks.
+//! The cells of a row of the table of networks, as parts of the page.
 
-ghost use Rattle.std.specs.Prelude.{◌≡◌, ◌++◌, OnOk, codes};
-ghost use Rattle.std.specs.List.{flat_map, join_by};
-ghost use Rattle.std.specs.String.{string_bytes};
+ghost use Rattle.std.specs.Prelude.{◌≡◌, ◌++◌, ◌∷◌, IfOk, OnOk, map};
+ghost use Rattle.std.specs.List.{flat_map};
+ghost use Rattle.page_html.specs.Parts.{item_of};
 ghost use Rattle.page_maps.specs.NetworkCells as spec;
 
 use crate::networks::{SystemClass, SystemCounts};
 use desk_policy::{Policy, mount_text};
-use desk_tables::FsId;
-use page_findings::{push_class_words, push_count_words};
-use page_html::{push_plural, push_system_link, push_zero};
+use page_findings::{Measure, badge_part, measured};
+use page_html::Part;
 use std::alloc::{AllocError, Global};
 
 /// So many file systems are named in a cell.
 const MOST: usize = 12;
 
-/// Adds the cell of the file systems on which all addresses may the same.
-pub(crate) fn push_alike_cell(
+/// Gathers the file systems on which all addresses may the same.
+pub(crate) fn alike_parts<'a>(
     alloc: Global,
-    policy: &Policy,
+    policy: &'a Policy,
     ones: &[SystemClass],
-    page: &mut String,
-) -> Result<(), AllocError>
-    ensures { OnOk result (string_bytes page.new ≡ string_bytes page.old ++ spec.alike_cell policy.now ones.now) }
+) -> Result<Vec<Part<'a>>, AllocError>
+    ensures { IfOk result (λ parts. map item_of parts.items ≡ spec.alike_cell policy.now ones.now) }
 {
-    page.push_str("<td>")?;
-    push_alike_or_dash(alloc, policy, ones, page)?;
-    page.push_str("</td>")?;
-    Ok(())
+    let (named, others) = ones.split_at(MOST.min(ones.len()));
+    let mut parts = Vec::new(alloc);
+    push_alike(policy, named, &mut parts)?;
+    push_more(Part::Words("; "), others.len() as u64, &mut parts)?;
+    Ok(parts)
 }
 
-/// Adds what is in it.
-fn push_alike_or_dash(
-    alloc: Global,
-    policy: &Policy,
+/// Adds some of them, or a dash if there are none.
+fn push_alike<'a>(
+    policy: &'a Policy,
     ones: &[SystemClass],
-    page: &mut String,
+    parts: &mut Vec<Part<'a>>,
 ) -> Result<(), AllocError>
-    ensures { OnOk result (string_bytes page.new ≡ string_bytes page.old ++ spec.some_or_dash (spec.alike policy.now) (codes "; ") ones.now) }
-{
-    if ones.is_empty() {
-        push_zero("-", page)
-    } else {
-        push_some_alike(alloc, policy, ones, page)
-    }
-}
-
-/// Adds the first of them, and how many more there are.
-fn push_some_alike(
-    alloc: Global,
-    policy: &Policy,
-    ones: &[SystemClass],
-    page: &mut String,
-) -> Result<(), AllocError>
-    ensures { OnOk result (string_bytes page.new ≡ string_bytes page.old ++ spec.some_of (spec.alike policy.now) (codes "; ") ones.now) }
-{
-    if ones.len() <= MOST {
-        return push_all_alike(policy, ones, page);
-    }
-    let (named, others) = ones.split_at(MOST);
-    push_all_alike(policy, named, page)?;
-    push_more_systems(alloc, "; ", others.len() as u64, page)
-}
-
-/// Adds all of them.
-fn push_all_alike(
-    policy: &Policy,
-    ones: &[SystemClass],
-    page: &mut String,
-) -> Result<(), AllocError>
-    ensures { OnOk result (string_bytes page.new ≡ string_bytes page.old ++ join_by (spec.alike policy.now) (codes "; ") ones.now) }
+    ensures { OnOk result (map item_of parts.new.items ≡ map item_of parts.old.items ++ spec.each_or_dash (spec.alike policy.now) spec.semicolon ones.now) }
 {
     match ones {
-        [] => Ok(()),
+        [] => push_all(&[Part::Zero("-")], parts),
         [first, others @ ..] => {
-            push_alike(policy, first, page)?;
-            push_later_alike(policy, others, page)
+            push_all(&alike(policy, first), parts)?;
+            push_later_alike(policy, others, parts)
         }
     }
 }
 
 /// Adds those behind the first.
-fn push_later_alike(
-    policy: &Policy,
+fn push_later_alike<'a>(
+    policy: &'a Policy,
     ones: &[SystemClass],
-    page: &mut String,
+    parts: &mut Vec<Part<'a>>,
 ) -> Result<(), AllocError>
-    ensures { OnOk result (string_bytes page.new
-        ≡ string_bytes page.old ++ flat_map (λ one. codes "; " ++ spec.alike policy.now one) ones.now) }
+    ensures { OnOk result (map item_of parts.new.items
+        ≡ map item_of parts.old.items ++ flat_map (λ one. spec.semicolon ∷ spec.alike policy.now one) ones.now) }
 {
     for one in ones {
-        page.push_str("; ")?;
-        push_alike(policy, one, page)?;
+        push_all(&[Part::Words("; ")], parts)?;
+        push_all(&alike(policy, one), parts)?;
     }
     Ok(())
 }
 
-/// Adds how many more file systems there are, behind those that are named.
-fn push_more_systems(
-    alloc: Global,
-    between: &str,
-    count: u64,
-    page: &mut String,
-) -> Result<(), AllocError>
-    ensures { OnOk result (string_bytes page.new ≡ string_bytes page.old ++ spec.more_systems between.now count) }
+/// Returns a file system, and what all addresses may there.
+fn alike<'a>(policy: &'a Policy, one: &SystemClass) -> [Part<'a>; 3]
+    ensures { map item_of result ≡ spec.alike policy.now one.now }
 {
-    page.push_str(between)?;
-    push_plural(alloc, count, "more file system", "more file systems", page)?;
-    Ok(())
+    [
+        Part::System(one.fs, mount_text(policy, one.fs)),
+        Part::Words(" "),
+        badge_part(one.class),
+    ]
 }
 
-/// Adds a file system, and what all addresses may there.
-#[tactic(auto, unfolding(crate::specs::NetworkCells::alike))]
-fn push_alike(policy: &Policy, one: &SystemClass, page: &mut String) -> Result<(), AllocError>
-    ensures { OnOk result (string_bytes page.new ≡ string_bytes page.old ++ spec.alike policy.now one.now) }
-{
-    push_link(policy, one.fs, page)?;
-    page.push_str(" ")?;
-    push_class_words(one.class, page)?;
-    Ok(())
-}
-
-/// Adds the cell of the file systems on which they do not all may the same.
-pub(crate) fn push_parts_cell(
+/// Gathers the file systems on which they do not all may the same.
+pub(crate) fn mixed_parts<'a>(
     alloc: Global,
-    policy: &Policy,
+    policy: &'a Policy,
     ones: &[SystemCounts],
-    page: &mut String,
-) -> Result<(), AllocError>
-    ensures { OnOk result (string_bytes page.new ≡ string_bytes page.old ++ spec.parts_cell policy.now ones.now) }
+) -> Result<Vec<Part<'a>>, AllocError>
+    ensures { IfOk result (λ parts. map item_of parts.items ≡ spec.mixed_cell policy.now ones.now) }
 {
-    page.push_str("<td>")?;
-    push_parts_or_dash(alloc, policy, ones, page)?;
-    page.push_str("</td>")?;
-    Ok(())
+    let (named, others) = ones.split_at(MOST.min(ones.len()));
+    let mut parts = Vec::new(alloc);
+    push_mixed(alloc, policy, named, &mut parts)?;
+    push_more(Part::Break, others.len() as u64, &mut parts)?;
+    Ok(parts)
 }
 
-/// Adds what is in it.
-fn push_parts_or_dash(
+/// Adds some of them, or a dash if there are none.
+fn push_mixed<'a>(
     alloc: Global,
-    policy: &Policy,
+    policy: &'a Policy,
     ones: &[SystemCounts],
-    page: &mut String,
+    parts: &mut Vec<Part<'a>>,
 ) -> Result<(), AllocError>
-    ensures { OnOk result (string_bytes page.new ≡ string_bytes page.old ++ spec.some_or_dash (spec.part policy.now) (codes "<br>") ones.now) }
-{
-    if ones.is_empty() {
-        push_zero("-", page)
-    } else {
-        push_some_parts(alloc, policy, ones, page)
-    }
-}
-
-/// Adds the first of them, and how many more there are.
-fn push_some_parts(
-    alloc: Global,
-    policy: &Policy,
-    ones: &[SystemCounts],
-    page: &mut String,
-) -> Result<(), AllocError>
-    ensures { OnOk result (string_bytes page.new ≡ string_bytes page.old ++ spec.some_of (spec.part policy.now) (codes "<br>") ones.now) }
-{
-    if ones.len() <= MOST {
-        return push_all_parts(alloc, policy, ones, page);
-    }
-    let (named, others) = ones.split_at(MOST);
-    push_all_parts(alloc, policy, named, page)?;
-    push_more_systems(alloc, "<br>", others.len() as u64, page)
-}
-
-/// Adds all of them.
-fn push_all_parts(
-    alloc: Global,
-    policy: &Policy,
-    ones: &[SystemCounts],
-    page: &mut String,
-) -> Result<(), AllocError>
-    ensures { OnOk result (string_bytes page.new ≡ string_bytes page.old ++ join_by (spec.part policy.now) (codes "<br>") ones.now) }
+    ensures { OnOk result (map item_of parts.new.items ≡ map item_of parts.old.items ++ spec.each_or_dash (spec.counted policy.now) spec.line_break ones.now) }
 {
     match ones {
-        [] => Ok(()),
+        [] => push_all(&[Part::Zero("-")], parts),
         [first, others @ ..] => {
-            push_part(alloc, policy, first, page)?;
-            push_later_parts(alloc, policy, others, page)
+            push_counted(alloc, policy, first, parts)?;
+            push_later_mixed(alloc, policy, others, parts)
         }
     }
 }
 
 /// Adds those behind the first.
-fn push_later_parts(
+fn push_later_mixed<'a>(
     alloc: Global,
-    policy: &Policy,
+    policy: &'a Policy,
     ones: &[SystemCounts],
-    page: &mut String,
+    parts: &mut Vec<Part<'a>>,
 ) -> Result<(), AllocError>
-    ensures { OnOk result (string_bytes page.new
-        ≡ string_bytes page.old ++ flat_map (λ one. codes "<br>" ++ spec.part policy.now one) ones.now) }
+    ensures { OnOk result (map item_of parts.new.items
+        ≡ map item_of parts.old.items ++ flat_map (λ one. spec.line_break ∷ spec.counted policy.now one) ones.now) }
 {
     for one in ones {
-        page.push_str("<br>")?;
-        push_part(alloc, policy, one, page)?;
+        push_all(&[Part::Break], parts)?;
+        push_counted(alloc, policy, one, parts)?;
     }
     Ok(())
 }
 
 /// Adds a file system, and how many addresses may what there.
-#[tactic(auto, unfolding(crate::specs::NetworkCells::part))]
-fn push_part(
+fn push_counted<'a>(
     alloc: Global,
-    policy: &Policy,
+    policy: &'a Policy,
     one: &SystemCounts,
-    page: &mut String,
+    parts: &mut Vec<Part<'a>>,
 ) -> Result<(), AllocError>
-    ensures { OnOk result (string_bytes page.new ≡ string_bytes page.old ++ spec.part policy.now one.now) }
+    ensures { OnOk result (map item_of parts.new.items ≡ map item_of parts.old.items ++ spec.counted policy.now one.now) }
 {
-    push_link(policy, one.fs, page)?;
-    page.push_str(" ")?;
-    push_count_words(alloc, &one.counts, page)?;
-    Ok(())
+    let counts = measured(alloc, Measure::Share, &one.counts)?;
+    let link = [
+        Part::System(one.fs, mount_text(policy, one.fs)),
+        Part::Words(" "),
+    ];
+    push_all(&link, parts)?;
+    push_all(counts.as_slice(), parts)
 }
 
-/// Adds a link to a file system.
-fn push_link(policy: &Policy, fs: FsId, page: &mut String) -> Result<(), AllocError>
-    ensures { OnOk result (string_bytes page.new ≡ string_bytes page.old ++ spec.link policy.now fs.0) }
+/// Adds how many more file systems there are, if there are any.
+fn push_more<'a>(between: Part<'a>, count: u64, parts: &mut Vec<Part<'a>>) -> Result<(), AllocError>
+    ensures { OnOk result (map item_of parts.new.items ≡ map item_of parts.old.items ++ spec.more_systems (item_of between.entry) count) }
 {
-    push_system_link(fs, mount_text(policy, fs), page)
+    if count == 0 {
+        return Ok(());
+    }
+    let more = [
+        between,
+        Part::Plural(count, "more file system", "more file systems"),
+    ];
+    push_all(&more, parts)
+}
+
+/// Adds parts behind others.
+fn push_all<'a>(more: &[Part<'a>], parts: &mut Vec<Part<'a>>) -> Result<(), AllocError>
+    ensures { OnOk result (map item_of parts.new.items ≡ map item_of parts.old.items ++ map item_of more.now) }
+{
+    parts.extend_from_slice(more)?;
+    Ok(())
 }

@@ -1,32 +1,39 @@
 //! The table of the networks that lines write.
 
-ghost use Rattle.std.specs.Prelude.{◌≡◌, ◌++◌, OnOk, map, take};
+ghost use Rattle.std.specs.Prelude.{◌≡◌, ◌++◌, OnOk, map};
 ghost use Rattle.std.specs.String.{string_bytes};
 ghost use Rattle.page_data.specs.Laws.{IsSoundSite};
 ghost use Rattle.page_data.specs.Systems.{AreSystems, system_value};
+ghost use Rattle.page_html.specs.Tables.{row_html, rows_html};
 ghost use Rattle.page_maps.specs.NetworkTable as spec;
 ghost use Rattle.page_maps.specs.NetworkTable.{GainsNetworks};
 
+use crate::drawing::{network_part, size_of};
 use crate::line_networks::written_in_site;
-use crate::network_cells::{push_alike_cell, push_parts_cell};
-use crate::networks::{NetworkRow, network_rows, size_of};
+use crate::network_cells::{alike_parts, mixed_parts};
+use crate::networks::{NetworkRow, network_rows};
 use desk_policy::Policy;
-use desk_text::Net;
 use page_data::FileSystemReport;
-use page_html::{Tag, push_count_cell, push_network, push_plural, push_tag};
+use page_html::{
+    Column, Element, Frame, Part, Tag, Title, four_cells, push_element, push_row, push_table_start,
+    push_tag,
+};
 use std::alloc::{AllocError, Global};
 
 /// So many networks are listed.
 const MOST: usize = 64;
 
-/// What stands before the rows.
-const START: &str =
-    r#"<p>The networks that lines write, but for /0 and those of IPv6, the widest first, and what their addresses may mount at the most, on some directory of each file system.</p>
-<div class="wide" tabindex="0" role="region" aria-label="What the networks may mount that lines write"><table class="p">
-<caption class="off">What the networks may mount that lines write</caption>
-<thead><tr><th scope="col">Network</th><th scope="col" class="num">Addresses</th><th scope="col">All of it, alike</th><th scope="col">Parts of it, and how many addresses</th></tr></thead>
-<tbody>
-"#;
+/// The table.
+const NETWORKS: Frame = Frame {
+    class: "p",
+    is_titled: false,
+    columns: &[
+        Column::Name("Network"),
+        Column::Count("Addresses"),
+        Column::Plain("All of it, alike"),
+        Column::Plain("Parts of it, and how many addresses"),
+    ],
+};
 
 /// Adds the table of the networks that lines write, given what is found of each file system. For each that is listed, all ranges of
 /// classes of all file systems are gone over.
@@ -41,21 +48,10 @@ pub fn push_networks(
     ensures { OnOk result (GainsNetworks policy.now (string_bytes page.old) (string_bytes page.new)) }
 {
     let written = written_in_site(alloc, policy)?;
-    let listed = first_of(written.as_slice());
+    let all = written.as_slice();
+    let (listed, others) = all.split_at(MOST.min(all.len()));
     let rows = network_rows(alloc, policy, systems, listed)?;
-    let more = written.len().saturating_sub(MOST);
-    push_table(alloc, policy, rows.as_slice(), more as u64, page)
-}
-
-/// Lends the first of some networks.
-fn first_of(networks: &[Net]) -> &[Net]
-    ensures { result.now ≡ take 64 networks.now }
-{
-    if networks.len() <= MOST {
-        networks
-    } else {
-        &networks[..MOST]
-    }
+    push_table(alloc, policy, rows.as_slice(), others.len() as u64, page)
 }
 
 /// Adds the table, or that there is no network, given how many are not listed.
@@ -69,7 +65,12 @@ fn push_table(
     ensures { OnOk result (string_bytes page.new ≡ string_bytes page.old ++ spec.networks_text policy.now rows.now more) }
 {
     if rows.is_empty() {
-        page.push_str("<p>No line writes a network, but for /0 or one of IPv6.</p>\n")
+        push_element(
+            alloc,
+            Element::Paragraph,
+            &[Part::Words("No line writes a network, but for /0 or one of IPv6.")],
+            page,
+        )
     } else {
         push_some_networks(alloc, policy, rows, more, page)
     }
@@ -85,7 +86,20 @@ fn push_some_networks(
 ) -> Result<(), AllocError>
     ensures { OnOk result (string_bytes page.new ≡ string_bytes page.old ++ spec.some_networks policy.now rows.now more) }
 {
-    page.push_str(START)?;
+    push_element(
+        alloc,
+        Element::Paragraph,
+        &[Part::Words(
+            "The networks that lines write, but for /0 and those of IPv6, the widest first, and what their addresses may mount at the most, on some directory of each file system.",
+        )],
+        page,
+    )?;
+    push_table_start(
+        alloc,
+        &NETWORKS,
+        &[Title::Said("What the networks may mount that lines write")],
+        page,
+    )?;
     push_rows(alloc, policy, rows, page)?;
     push_tag(Tag::TableEnd, page)?;
     push_left_out(alloc, more, page)?;
@@ -93,47 +107,43 @@ fn push_some_networks(
 }
 
 /// Adds the rows.
-#[tactic(auto, unfolding(crate::specs::NetworkTable::rows))]
+#[tactic(auto, unfolding(page_html::specs::Tables::rows_html))]
 fn push_rows(
     alloc: Global,
     policy: &Policy,
     rows: &[NetworkRow],
     page: &mut String,
 ) -> Result<(), AllocError>
-    ensures { OnOk result (string_bytes page.new ≡ string_bytes page.old ++ spec.rows policy.now rows.now) }
+    ensures { OnOk result (string_bytes page.new ≡ string_bytes page.old ++ rows_html spec.frame (map (spec.cells policy.now) rows.now)) }
 {
     for row in rows {
-        push_row(alloc, policy, row, page)?;
+        push_network(alloc, policy, row, page)?;
     }
     Ok(())
 }
 
-/// Adds a row.
-#[tactic(auto, unfolding(crate::specs::NetworkTable::row))]
-fn push_row(
+/// Adds the row of a network.
+fn push_network(
     alloc: Global,
     policy: &Policy,
     row: &NetworkRow,
     page: &mut String,
 ) -> Result<(), AllocError>
-    ensures { OnOk result (string_bytes page.new ≡ string_bytes page.old ++ spec.row policy.now row.now) }
+    ensures { OnOk result (string_bytes page.new ≡ string_bytes page.old ++ row_html spec.frame (spec.cells policy.now row.now)) }
 {
-    push_row_head(row.network, page)?;
-    push_count_cell(alloc, size_of(row.network), page)?;
-    push_alike_cell(alloc, policy, row.alike.as_slice(), page)?;
-    push_parts_cell(alloc, policy, row.parts.as_slice(), page)?;
-    page.push_str("</tr>\n")?;
-    Ok(())
-}
-
-/// Begins a row with its network.
-fn push_row_head(network: Net, page: &mut String) -> Result<(), AllocError>
-    ensures { OnOk result (string_bytes page.new ≡ string_bytes page.old ++ spec.row_head network) }
-{
-    page.push_str("<tr><th scope=\"row\">")?;
-    push_network(network.first(), network.prefix().get(), page)?;
-    page.push_str("</th>")?;
-    Ok(())
+    let alike = alike_parts(alloc, policy, row.alike.as_slice())?;
+    let mixed = mixed_parts(alloc, policy, row.parts.as_slice())?;
+    push_row(
+        alloc,
+        &NETWORKS,
+        &four_cells(
+            &[network_part(row.network)],
+            &[Part::Number(size_of(row.network))],
+            alike.as_slice(),
+            mixed.as_slice(),
+        ),
+        page,
+    )
 }
 
 /// Adds how many networks are not listed, if there are any.
@@ -143,15 +153,13 @@ fn push_left_out(alloc: Global, count: u64, page: &mut String) -> Result<(), All
     if count == 0 {
         return Ok(());
     }
-    push_not_listed(alloc, count, page)
-}
-
-/// Adds how many networks are not listed.
-fn push_not_listed(alloc: Global, count: u64, page: &mut String) -> Result<(), AllocError>
-    ensures { OnOk result (string_bytes page.new ≡ string_bytes page.old ++ spec.not_listed count) }
-{
-    page.push_str("<p class=\"cut\">")?;
-    push_plural(alloc, count, "more network is", "more networks are", page)?;
-    page.push_str(" not listed, none of them wider.</p>\n")?;
-    Ok(())
+    push_element(
+        alloc,
+        Element::Cut,
+        &[
+            Part::Plural(count, "more network is", "more networks are"),
+            Part::Words(" not listed, none of them wider."),
+        ],
+        page,
+    )
 }

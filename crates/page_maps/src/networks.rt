@@ -1,7 +1,6 @@
 //! What the addresses of networks may, on each file system.
 
 ghost use Rattle.std.specs.Prelude.{◌≡◌, ◌++◌, IfOk, OnOk, map};
-ghost use Rattle.desk_text.specs.Network.{block_size};
 ghost use Rattle.desk_policy.specs.Policy.{Content};
 ghost use Rattle.page_data.specs.Classes.{AreClassesIn, class_run};
 ghost use Rattle.page_data.specs.Laws.{IsSoundSite};
@@ -10,6 +9,7 @@ ghost use Rattle.page_data.specs.Values.{AreRunsOfSome};
 ghost use Rattle.page_maps.specs.NetworkRows as spec;
 ghost use Rattle.page_maps.specs.NetworkRows.{AreCountsOfSite, AreNetworkRows, IsCountedIn, IsNetworkRow};
 
+use crate::drawing::size_of;
 use desk_policy::Policy;
 use desk_tables::FsId;
 use desk_text::{Net, Sequence};
@@ -185,11 +185,4 @@ fn is_mixed(class: Option<Class>) -> bool
         None => true,
         Some(_) => false,
     }
-}
-
-/// Returns how many addresses a network has.
-pub(crate) fn size_of(network: Net) -> u64
-    ensures { result ≡ block_size network.prefix }
-{
-    1u64 << (32 - network.prefix().get())
 }

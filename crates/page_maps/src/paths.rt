@@ -2,9 +2,10 @@
 
 ghost use Rattle.std.specs.Prelude.{◌≡◌, ◌++◌, ◌<◌, ◌≤◌, IfOk, OnOk, length, not};
 ghost use Rattle.std.specs.List.{position};
-ghost use Rattle.std.specs.String.{string_bytes};
+ghost use Rattle.page_html.specs.Images.{image_html};
 ghost use Rattle.page_maps.specs.Paths as spec;
 
+use page_html::Drawn;
 use std::alloc::{AllocError, Global};
 
 /// The shape of a mark.
@@ -24,13 +25,13 @@ const CELLS: usize = 256;
 pub(crate) fn push_ground_path(
     alloc: Global,
     which: &[bool],
-    page: &mut String,
+    image: &mut Drawn,
 ) -> Result<(), AllocError>
     requires { length which.now ≡ 256 }
-    ensures { OnOk result (string_bytes page.new ≡ string_bytes page.old ++ spec.ground_path which.now) }
+    ensures { OnOk result (image_html image.new ≡ image_html image.old ++ spec.ground_path which.now) }
 {
     let wholes = whole_rows(alloc, which)?;
-    push_rows(which, wholes.as_slice(), page)
+    push_rows(which, wholes.as_slice(), image)
 }
 
 /// Tells of each row whether it is whole.
@@ -63,66 +64,66 @@ fn is_whole(row: &[bool]) -> bool
 }
 
 /// Adds what begins in each row, given which rows are whole.
-fn push_rows(which: &[bool], wholes: &[bool], page: &mut String) -> Result<(), AllocError>
+fn push_rows(which: &[bool], wholes: &[bool], image: &mut Drawn) -> Result<(), AllocError>
     requires cells { length which.now ≡ 256 }
     requires wholes { wholes.now ≡ spec.whole_rows which.now }
-    ensures { OnOk result (string_bytes page.new ≡ string_bytes page.old ++ spec.ground_path which.now) }
+    ensures { OnOk result (image_html image.new ≡ image_html image.old ++ spec.ground_path which.now) }
 {
     for y in 0..ROWS {
-        push_row(which, wholes, y, page)?;
+        push_row(which, wholes, y, image)?;
     }
     Ok(())
 }
 
 /// Adds what begins in a row.
-fn push_row(which: &[bool], wholes: &[bool], y: usize, page: &mut String) -> Result<(), AllocError>
+fn push_row(which: &[bool], wholes: &[bool], y: usize, image: &mut Drawn) -> Result<(), AllocError>
     requires cells { length which.now ≡ 256 }
     requires rows { length wholes.now ≡ 16 }
     requires row { y < 16 }
-    ensures { OnOk result (string_bytes page.new ≡ string_bytes page.old ++ spec.row_path which.now wholes.now y) }
+    ensures { OnOk result (image_html image.new ≡ image_html image.old ++ spec.row_path which.now wholes.now y) }
 {
     let row = row_of(which, y);
     if is_whole(row) {
-        push_whole_at(wholes, y, page)
+        push_whole_at(wholes, y, image)
     } else {
-        push_pieces(row, y, page)
+        push_pieces(row, y, image)
     }
 }
 
 /// Adds whole rows that are neighbours, if this is the first of them.
-fn push_whole_at(wholes: &[bool], y: usize, page: &mut String) -> Result<(), AllocError>
+fn push_whole_at(wholes: &[bool], y: usize, image: &mut Drawn) -> Result<(), AllocError>
     requires rows { length wholes.now ≡ 16 }
     requires row { y < 16 }
-    ensures { OnOk result (string_bytes page.new ≡ string_bytes page.old ++ spec.whole_at wholes.now y) }
+    ensures { OnOk result (image_html image.new ≡ image_html image.old ++ spec.whole_at wholes.now y) }
 {
     if begins_at(wholes, y) {
-        push_rectangle(0, y, ROWS, length_from(wholes, y), page)
+        push_rectangle(0, y, ROWS, length_from(wholes, y), image)
     } else {
         Ok(())
     }
 }
 
 /// Adds the longest pieces of a row.
-fn push_pieces(row: &[bool], y: usize, page: &mut String) -> Result<(), AllocError>
+fn push_pieces(row: &[bool], y: usize, image: &mut Drawn) -> Result<(), AllocError>
     requires cells { length row.now ≡ 16 }
     requires row { y < 16 }
-    ensures { OnOk result (string_bytes page.new ≡ string_bytes page.old ++ spec.pieces row.now y) }
+    ensures { OnOk result (image_html image.new ≡ image_html image.old ++ spec.pieces row.now y) }
 {
     for x in 0..ROWS {
-        push_piece_at(row, x, y, page)?;
+        push_piece_at(row, x, y, image)?;
     }
     Ok(())
 }
 
 /// Adds a longest piece of a row, if it begins here.
-fn push_piece_at(row: &[bool], x: usize, y: usize, page: &mut String) -> Result<(), AllocError>
+fn push_piece_at(row: &[bool], x: usize, y: usize, image: &mut Drawn) -> Result<(), AllocError>
     requires cells { length row.now ≡ 16 }
     requires cell { x < 16 }
     requires row { y < 16 }
-    ensures { OnOk result (string_bytes page.new ≡ string_bytes page.old ++ spec.piece_at row.now y x) }
+    ensures { OnOk result (image_html image.new ≡ image_html image.old ++ spec.piece_at row.now y x) }
 {
     if begins_at(row, x) {
-        push_rectangle(x, y, length_from(row, x), 1, page)
+        push_rectangle(x, y, length_from(row, x), 1, image)
     } else {
         Ok(())
     }
@@ -162,29 +163,51 @@ fn push_rectangle(
     top: usize,
     width: usize,
     height: usize,
-    page: &mut String,
+    image: &mut Drawn,
 ) -> Result<(), AllocError>
     requires left { left < 16 }
     requires top { top < 16 }
     requires width { width ≤ 16 }
     requires height { height ≤ 16 }
-    ensures { OnOk result (string_bytes page.new ≡ string_bytes page.old ++ spec.rectangle left top width height) }
+    ensures { OnOk result (image_html image.new ≡ image_html image.old ++ spec.rectangle left top width height) }
 {
-    let (x, y, wide, high) = (4 * left, 4 * top, 4 * width, 4 * height);
-    write!(page, "M{x} {y}h{wide}v{high}h-{wide}z")
+    push_place(4 * left, 4 * top, image)?;
+    push_side("h", width, image)?;
+    push_side("v", height, image)?;
+    push_side("h-", width, image)?;
+    image.push_fixed("z")
+}
+
+/// Adds where a shape begins.
+fn push_place(x: usize, y: usize, image: &mut Drawn) -> Result<(), AllocError>
+    ensures { OnOk result (image_html image.new ≡ image_html image.old ++ spec.place x y) }
+{
+    image.push_fixed("M")?;
+    image.push_digits(x as u64)?;
+    image.push_fixed(" ")?;
+    image.push_digits(y as u64)
+}
+
+/// Adds a side, as many cells long, by the way in which it goes.
+fn push_side(way: &'static str, cells: usize, image: &mut Drawn) -> Result<(), AllocError>
+    requires { cells ≤ 16 }
+    ensures { OnOk result (image_html image.new ≡ image_html image.old ++ spec.side way.now cells) }
+{
+    image.push_fixed(way)?;
+    image.push_digits(4 * cells as u64)
 }
 
 /// Adds the marks of the cells that are meant.
 pub(crate) fn push_mark_path(
     which: &[bool],
     mark: Shape,
-    page: &mut String,
+    image: &mut Drawn,
 ) -> Result<(), AllocError>
     requires { length which.now ≡ 256 }
-    ensures { OnOk result (string_bytes page.new ≡ string_bytes page.old ++ spec.mark_path which.now mark) }
+    ensures { OnOk result (image_html image.new ≡ image_html image.old ++ spec.mark_path which.now mark) }
 {
     for cell in 0..CELLS {
-        push_mark_at(which, mark, cell, page)?;
+        push_mark_at(which, mark, cell, image)?;
     }
     Ok(())
 }
@@ -194,34 +217,33 @@ fn push_mark_at(
     which: &[bool],
     mark: Shape,
     cell: usize,
-    page: &mut String,
+    image: &mut Drawn,
 ) -> Result<(), AllocError>
     requires cells { length which.now ≡ 256 }
     requires cell { cell < 256 }
-    ensures { OnOk result (string_bytes page.new ≡ string_bytes page.old ++ spec.mark_at which.now mark cell) }
+    ensures { OnOk result (image_html image.new ≡ image_html image.old ++ spec.mark_at which.now mark cell) }
 {
     if which[cell] {
-        push_shape(mark, cell % ROWS, cell / ROWS, page)
+        push_shape(mark, cell % ROWS, cell / ROWS, image)
     } else {
         Ok(())
     }
 }
 
 /// Adds a square in the middle of a cell, or a diamond as large as the cell.
-fn push_shape(mark: Shape, x: usize, y: usize, page: &mut String) -> Result<(), AllocError>
+fn push_shape(mark: Shape, x: usize, y: usize, image: &mut Drawn) -> Result<(), AllocError>
     requires x { x < 16 }
     requires y { y < 16 }
-    ensures { OnOk result (string_bytes page.new ≡ string_bytes page.old ++ spec.shape mark x y) }
+    ensures { OnOk result (image_html image.new ≡ image_html image.old ++ spec.shape mark x y) }
 {
-    let (left, top) = (4 * x, 4 * y);
     match mark {
         Shape::Square => {
-            let (left, top) = (left + 1, top + 1);
-            write!(page, "M{left} {top}h2v2h-2z")
+            push_place(4 * x + 1, 4 * y + 1, image)?;
+            image.push_fixed("h2v2h-2z")
         }
         Shape::Diamond => {
-            let left = left + 2;
-            write!(page, "M{left} {top}l2 2-2 2-2-2z")
+            push_place(4 * x + 2, 4 * y, image)?;
+            image.push_fixed("l2 2-2 2-2-2z")
         }
     }
 }

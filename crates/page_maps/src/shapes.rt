@@ -4,6 +4,7 @@ ghost use Rattle.std.specs.Prelude.{◌≡◌, ◌++◌, OnOk};
 ghost use Rattle.std.specs.String.{string_bytes};
 ghost use Rattle.page_maps.specs.Shapes as spec;
 
+use page_html::push_fixed;
 use std::alloc::AllocError;
 
 /// The patterns that fill cells, the ground of a map, its grid, and the numbers of its rows.
@@ -23,5 +24,5 @@ const SHAPES: &str = r#"<svg class="defs" width="0" height="0" aria-hidden="true
 pub fn push_shapes(page: &mut String) -> Result<(), AllocError>
     ensures { OnOk result (string_bytes page.new ≡ string_bytes page.old ++ spec.shapes) }
 {
-    page.push_str(SHAPES)
+    push_fixed(SHAPES, page)
 }

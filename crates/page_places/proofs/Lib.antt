@@ -2,6 +2,7 @@ mod Sized
 pub mod Adding
 pub mod Counted
 pub mod Gathered
+mod Gathering
 pub mod Homes
 pub mod Listed
 pub mod Opened

@@ -14,3 +14,4 @@ pub mod Maps
 pub mod PrivateChanges
 pub mod PrivateImpacts
 pub mod ChangeRows
+pub mod Widening

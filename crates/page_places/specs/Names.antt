@@ -1,16 +1,16 @@
--- The names of directories that are granted alike. (this project's own, over HTML)
-use Rattle.std.specs.Prelude.{ℕ, ◌==◌, Bool, true, false, List, [], ◌∷◌, ◌++◌, codes, drop, fold, length, map, nat_le, take, if◌then◌else◌}
+-- The names of directories that are granted alike. (this project's own)
+use Rattle.std.specs.Prelude.{ℕ, ◌==◌, Bool, true, false, List, [], ◌∷◌, ◌++◌, codes, drop, fold, length, map, not, take, if◌then◌else◌}
 use Rattle.std.specs.Borrow.{Bor}
-use Rattle.std.specs.List.{join_by}
+use Rattle.std.specs.List.{flat_map}
 use Rattle.desk_text.specs.Path.{path_text}
 use Rattle.desk_impact.specs.Places.{Directory, Others, Place}
 use Rattle.desk_impact.specs.Sections.{PlaceBreaches}
-use Rattle.page_html.specs.Amounts.{and_more, plural}
-use Rattle.page_html.specs.Escaping.{attribute}
-use Rattle.page_html.specs.Pieces.{code}
+use Rattle.page_html.specs.Blocks.{element_html, tag_html}
+use Rattle.page_html.specs.Items.{AndMore, Code, Item, Own, Plural, Words}
+use Rattle.page_html.specs.Titles.{Further, Named, Said, Title}
+use Rattle.page_html.specs.declared.blocks.Element.TheVariants.{Fold, Names, PlaceHeading}
+use Rattle.page_html.specs.declared.blocks.Tag.TheVariants.{FoldEnd}
 use Rattle.page_places.specs.declared.names.Members.{Members}
-use Rattle.page_places.specs.declared.names.Spot.{Spot}
-use Rattle.page_places.specs.declared.names.Spot.TheVariants.{Attribute, Element}
 
 -- directories, and whether the other directories of their file system are with them
 pub record MembersValue : Type 0 where
@@ -30,54 +30,55 @@ members_of places = fold with_place (record { directories = []; has_others = fal
 abbrev pub members_in : List PlaceBreaches → MembersValue
 members_in sections = members_of (map (λ section. section.place) sections)
 
--- the name of a directory where it stands: between tags it is in `code`, and within an attribute there are no elements
-abbrev pub name : Spot → List (List ℕ) → List ℕ
-name Element path = code (path_text path)
-name Attribute path = attribute (path_text path)
+-- the name of a place
+abbrev pub place_item : Place → Item (List ℕ)
+place_item (Directory path) = Code (path_text path)
+place_item (Others mount) = Own (Words (codes "other directories"))
 
 -- names with commas between them
-abbrev pub names : Spot → List (List (List ℕ)) → List ℕ
-names spot paths = join_by (name spot) (codes ", ") paths
+abbrev pub later : List (List ℕ) → List (Title (List ℕ))
+later path = Said (codes ", ") ∷ Named (path_text path) ∷ []
 
--- so many of the names, and how many there are more
-abbrev pub some_names : ℕ → Spot → List (List (List ℕ)) → List ℕ
-some_names most spot paths =
-    if nat_le (length paths) most then names spot paths else names spot (take most paths) ++ and_more (length (drop most paths))
+abbrev pub names : List (List (List ℕ)) → List (Title (List ℕ))
+names [] = []
+names (first ∷ others) = Named (path_text first) ∷ flat_map later others
 
--- the other directories, behind other names or alone
-abbrev pub others_words : Bool → List ℕ
-others_words is_alone = if is_alone then codes "other directories" else codes ", other directories"
-
-abbrev pub others_if : Bool → Bool → List ℕ
-others_if has_others is_alone = if has_others then others_words is_alone else []
+-- the other directories, if they are in a group, behind other names or alone
+abbrev pub others_words : Bool → Bool → List ℕ
+others_words has_others is_alone =
+    if not has_others then [] else if is_alone then codes "other directories" else codes ", other directories"
 
 -- what is in a group: so many of its directories, how many it has more, and the other directories, if they are in it
-abbrev pub group_words : ℕ → Spot → MembersValue → List ℕ
-group_words most spot members = some_names most spot members.directories ++ others_if members.has_others (length members.directories == 0)
+abbrev pub group_words : ℕ → MembersValue → List (Title (List ℕ))
+group_words most members =
+    names (take most members.directories) ++ Further (length (drop most members.directories))
+    ∷ Said (others_words members.has_others (length members.directories == 0)) ∷ []
 
--- for a caption, and for a heading
-abbrev pub caption_words : Spot → MembersValue → List ℕ
-caption_words spot members = group_words 3 spot members
+-- what the table of a group is called
+abbrev pub caption : MembersValue → List (Title (List ℕ))
+caption members = Said (codes "Who may mount ") ∷ group_words 3 members
 
-abbrev pub heading : MembersValue → List ℕ
-heading members = group_words 8 Element members
+-- the same words in an element
+abbrev pub shown : Title (List ℕ) → Item (List ℕ)
+shown (Said words) = Own (Words words)
+shown (Named name) = Code name
+shown (Further count) = Own (AndMore count)
 
 -- names that are folded
-abbrev pub directories_more : ℕ → List ℕ
-directories_more count = plural count (codes "more directory") (codes "more directories")
+abbrev pub more_directories : ℕ → Item (List ℕ)
+more_directories count = Own (Plural count (codes "more directory") (codes "more directories"))
 
-abbrev pub names_summary : ℕ → List ℕ
-names_summary count = codes "<details><summary>" ++ directories_more count ++ codes "</summary>\n<p class=\"names\">"
+abbrev pub folded : List (List (List ℕ)) → List ℕ
+folded paths =
+    element_html Fold (more_directories (length paths) ∷ []) ++ element_html Names (map shown (names paths)) ++ tag_html FoldEnd
 
 abbrev pub left_out : List (List (List ℕ)) → List ℕ
-left_out paths = names_summary (length paths) ++ names Element paths ++ codes "</p>\n</details>\n"
+left_out [] = []
+left_out (first ∷ others) = folded (first ∷ others)
 
--- those that the heading leaves out
-abbrev pub rest : List (List (List ℕ)) → List ℕ
-rest paths = if nat_le (length paths) 8 then [] else left_out (drop 8 paths)
-
-abbrev pub folded_names : MembersValue → List ℕ
-folded_names members = rest members.directories
+-- the heading of a group, and the names that it leaves out
+abbrev pub heading : MembersValue → List ℕ
+heading members = element_html PlaceHeading (map shown (group_words 8 members)) ++ left_out (drop 8 members.directories)
 
 -- lent paths by value
 abbrev pub paths_in : List (Bor (List (List ℕ))) → List (List (List ℕ))

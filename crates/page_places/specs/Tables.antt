@@ -1,13 +1,15 @@
--- The table of who may mount some directories. (this project's own, over HTML)
-use Rattle.std.specs.Prelude.{ℕ, ◌+◌, ◌==◌, ◌≤◌, ◌^◌, All, IfSome, List, [], ◌++◌, Option, Some, None, Result, Ok, Err, codes, length, map, nat_le, sum_by, if◌then◌else◌}
-use Rattle.std.specs.List.{flat_map}
+-- The table of who may mount some directories. (this project's own)
+use Rattle.std.specs.Prelude.{ℕ, ◌+◌, ◌==◌, ◌≤◌, ◌^◌, All, IfSome, List, [], ◌∷◌, ◌++◌, Option, Some, None, Result, Ok, Err, codes, length, map, nat_le, sum_by, if◌then◌else◌}
 use Rattle.desk_policy.specs.Verdict.{Grant}
 use Rattle.desk_policy.specs.declared.verdict.Denial.{Denial}
 use Rattle.page_data.specs.declared.tables.Table.{Table}
-use Rattle.page_html.specs.Amounts.{plural}
-use Rattle.page_places.specs.Names.{MembersValue, caption_words}
-use Rattle.page_places.specs.Rows.{RowValue, others_row, row_text, row_value, size_of}
-use Rattle.page_places.specs.declared.names.Spot.TheVariants.{Attribute, Element}
+use Rattle.page_html.specs.Blocks.{element_html, tag_html}
+use Rattle.page_html.specs.Items.{Item, Own, Plural, Words}
+use Rattle.page_html.specs.Tables.{row_html, rows_html, table_start}
+use Rattle.page_html.specs.declared.blocks.Element.TheVariants.{Fold}
+use Rattle.page_html.specs.declared.blocks.Tag.TheVariants.{FoldEnd, TableEnd}
+use Rattle.page_places.specs.Names.{MembersValue, caption}
+use Rattle.page_places.specs.Rows.{RowValue, cells, others_cells, row_value, size_of, verdict_frame}
 
 -- the rows of a table, and how many addresses are denied without a row of their own, if some are
 pub record TableValue : Type 0 where
@@ -46,40 +48,22 @@ grants_one (Err denial) = 0
 abbrev pub granting : List RowValue → ℕ
 granting rows = sum_by (λ row. grants_one row.verdict) rows
 
--- the beginning of a table that is folded
-abbrev pub table_summary : ℕ → List ℕ
-table_summary count = codes "<details><summary>" ++ plural count (codes "line") (codes "lines") ++ codes " that grant it</summary>\n"
-
--- a box in which the table can be scrolled, by the keyboard too
-abbrev pub table_box : MembersValue → List ℕ
-table_box members =
-    codes "<div class=\"wide\" tabindex=\"0\" role=\"region\" aria-label=\"Who may mount " ++ caption_words Attribute members
-    ++ codes "\"><table class=\"v\">\n"
-
--- the end of the caption, and the heads of the columns
-unfoldable pub heads : List ℕ
-heads = codes "</caption>\n<thead><tr><th scope=\"col\">Verdict</th><th scope=\"col\">Clients</th><th scope=\"col\" class=\"num\">Addresses</th><th scope=\"col\">By, and on what terms</th></tr></thead>\n<tbody>\n"
-
-abbrev pub caption : MembersValue → List ℕ
-caption members = codes "<caption class=\"off\">Who may mount " ++ caption_words Element members ++ heads
-
--- a row for each verdict
-unfoldable pub rows_text : ℕ → List RowValue → List ℕ
-rows_text fs rows = flat_map (row_text fs) rows
-
--- the row of everybody else, if it is told, and the end of the table
+-- the row of everybody else, if it is told
 abbrev pub others_text : Option ℕ → List ℕ
 others_text None = []
-others_text (Some count) = others_row count
+others_text (Some count) = row_html verdict_frame (others_cells count)
 
-abbrev pub table_end : Option ℕ → List ℕ
-table_end others = others_text others ++ codes "</tbody>\n</table></div>\n"
-
+-- a row for each verdict, and that of everybody else
 abbrev pub table : ℕ → MembersValue → TableValue → List ℕ
-table fs members told = table_box members ++ caption members ++ rows_text fs told.rows ++ table_end told.others
+table fs members told =
+    table_start verdict_frame (caption members) ++ rows_html verdict_frame (map (cells fs) told.rows) ++ others_text told.others ++ tag_html TableEnd
+
+-- a table that is folded
+abbrev pub table_summary : ℕ → List (Item (List ℕ))
+table_summary count = Own (Plural count (codes "line") (codes "lines")) ∷ Own (Words (codes " that grant it")) ∷ []
 
 abbrev pub folded_table : ℕ → MembersValue → TableValue → List ℕ
-folded_table fs members told = table_summary (granting told.rows) ++ table fs members told ++ codes "</details>\n"
+folded_table fs members told = element_html Fold (table_summary (granting told.rows)) ++ table fs members told ++ tag_html FoldEnd
 
 -- The table of who may mount directories of a file system: one of more than 24 rows is folded.
 abbrev pub table_block : ℕ → MembersValue → TableValue → List ℕ

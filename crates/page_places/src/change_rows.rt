@@ -1,23 +1,40 @@
 //! What a proposal would change, and for whom.
 
-ghost use Rattle.std.specs.Prelude.{◌≡◌, ◌++◌, OnOk};
+ghost use Rattle.std.specs.Prelude.{◌≡◌, ◌++◌, OnOk, map};
 ghost use Rattle.std.specs.String.{string_bytes};
-ghost use Rattle.desk_text.specs.Address.{number_of};
-ghost use Rattle.desk_impact.specs.Places.{place_of};
 ghost use Rattle.desk_policy.specs.Verdict.{verdict_result};
+ghost use Rattle.page_html.specs.Parts.{item_of};
+ghost use Rattle.page_html.specs.Tables.{row_html, rows_html};
 ghost use Rattle.page_places.specs.ChangeRows as spec;
 
-use desk_exports::Terms;
+use crate::names::place_part;
+use crate::rows::span_size;
 use desk_impact::Place;
 use desk_policy::Verdict;
 use desk_text::Addr;
 use page_data::Class;
-use page_findings::push_badge;
-use page_html::{push_code, push_number, push_plural, push_range, push_terms};
+use page_findings::badge_part;
+use page_html::{
+    Column, Element, Frame, Part, Span, Tag, Title, push_element, push_row, push_table_start,
+    push_tag,
+};
 use std::alloc::{AllocError, Global};
 
 /// How many changes stand in the open.
 const OPEN_ROWS: usize = 24;
+
+/// The table.
+const CHANGES: Frame = Frame {
+    class: "i",
+    is_titled: true,
+    columns: &[
+        Column::Name("Directory"),
+        Column::Plain("Clients"),
+        Column::Count("Addresses"),
+        Column::Plain("Now"),
+        Column::Plain("Then"),
+    ],
+};
 
 /// What changes at a place for the addresses from the first to the last.
 #[derive(Clone, Copy)]
@@ -49,19 +66,16 @@ fn push_silent(alloc: Global, count: u64, page: &mut String) -> Result<(), Alloc
     if count == 0 {
         return Ok(());
     }
-    push_silent_count(alloc, count, page)
+    let parts = [
+        Part::Plural(count, "change", "changes"),
+        Part::Words(
+            " of lines or reasons alone: the same clients may mount the same on the same terms, and only the line that grants it, or the reason of a denial, is another.",
+        ),
+    ];
+    push_element(alloc, Element::Paragraph, &parts, page)
 }
 
-/// Adds how many changes are of lines or reasons alone.
-fn push_silent_count(alloc: Global, count: u64, page: &mut String) -> Result<(), AllocError>
-    ensures { OnOk result (string_bytes page.new ≡ string_bytes page.old ++ spec.silent_count count) }
-{
-    page.push_str("<p>")?;
-    push_plural(alloc, count, "change", "changes", page)?;
-    page.push_str(" of lines or reasons alone.</p>\n")
-}
-
-/// Adds the changes that matter, folded if they are many, or that there are none.
+/// Adds the changes that matter, or that there are none.
 fn push_mattering(
     alloc: Global,
     rows: &[ChangeRow<'_>],
@@ -70,8 +84,20 @@ fn push_mattering(
     ensures { OnOk result (string_bytes page.new ≡ string_bytes page.old ++ spec.mattering rows.now) }
 {
     if rows.is_empty() {
-        return page.push_str("<p>It would change nothing for any client.</p>\n");
+        let words = [Part::Words("It would change nothing for any client.")];
+        return push_element(alloc, Element::Paragraph, &words, page);
     }
+    push_some_changes(alloc, rows, page)
+}
+
+/// Adds changes, folded if they are many.
+fn push_some_changes(
+    alloc: Global,
+    rows: &[ChangeRow<'_>],
+    page: &mut String,
+) -> Result<(), AllocError>
+    ensures { OnOk result (string_bytes page.new ≡ string_bytes page.old ++ spec.some_changes rows.now) }
+{
     if rows.len() <= OPEN_ROWS {
         return push_change_table(alloc, rows, page);
     }
@@ -86,18 +112,10 @@ fn push_changes_folded(
 ) -> Result<(), AllocError>
     ensures { OnOk result (string_bytes page.new ≡ string_bytes page.old ++ spec.changes_folded rows.now) }
 {
-    push_changes_summary(alloc, rows.len() as u64, page)?;
+    let count = Part::Plural(rows.len() as u64, "change", "changes");
+    push_element(alloc, Element::Fold, &[count], page)?;
     push_change_table(alloc, rows, page)?;
-    page.push_str("</details>\n")
-}
-
-/// Begins changes that are folded, of which there are so many.
-fn push_changes_summary(alloc: Global, count: u64, page: &mut String) -> Result<(), AllocError>
-    ensures { OnOk result (string_bytes page.new ≡ string_bytes page.old ++ spec.changes_summary count) }
-{
-    page.push_str("<details><summary>")?;
-    push_plural(alloc, count, "change", "changes", page)?;
-    page.push_str("</summary>\n")
+    push_tag(Tag::FoldEnd, page)
 }
 
 /// Adds the table of changes.
@@ -108,29 +126,24 @@ fn push_change_table(
 ) -> Result<(), AllocError>
     ensures { OnOk result (string_bytes page.new ≡ string_bytes page.old ++ spec.change_table rows.now) }
 {
-    push_change_heads(page)?;
+    push_table_start(
+        alloc,
+        &CHANGES,
+        &[Title::Said("What it would change")],
+        page,
+    )?;
     push_change_rows(alloc, rows, page)?;
-    page.push_str("</tbody>\n</table></div>\n")
-}
-
-/// Begins the table of changes.
-#[tactic(auto, unfolding(crate::specs::ChangeRows::change_heads))]
-fn push_change_heads(page: &mut String) -> Result<(), AllocError>
-    ensures { OnOk result (string_bytes page.new ≡ string_bytes page.old ++ spec.change_heads) }
-{
-    page.push_str(
-        "<div class=\"wide\" tabindex=\"0\" role=\"region\" aria-label=\"What it would change\"><table class=\"i\">\n<caption>What it would change</caption>\n<thead><tr><th scope=\"col\">Directory</th><th scope=\"col\">Clients</th><th scope=\"col\" class=\"num\">Addresses</th><th scope=\"col\">Now</th><th scope=\"col\">Then</th></tr></thead>\n<tbody>\n",
-    )
+    push_tag(Tag::TableEnd, page)
 }
 
 /// Adds a row for each change.
-#[tactic(auto, unfolding(crate::specs::ChangeRows::change_rows))]
+#[tactic(auto, unfolding(page_html::specs::Tables::rows_html))]
 fn push_change_rows(
     alloc: Global,
     rows: &[ChangeRow<'_>],
     page: &mut String,
 ) -> Result<(), AllocError>
-    ensures { OnOk result (string_bytes page.new ≡ string_bytes page.old ++ spec.change_rows rows.now) }
+    ensures { OnOk result (string_bytes page.new ≡ string_bytes page.old ++ rows_html spec.change_frame (map spec.change_cells rows.now)) }
 {
     for row in rows {
         push_change_row(alloc, row, page)?;
@@ -140,94 +153,43 @@ fn push_change_rows(
 
 /// Adds the row of a change.
 fn push_change_row(alloc: Global, row: &ChangeRow<'_>, page: &mut String) -> Result<(), AllocError>
-    ensures { OnOk result (string_bytes page.new ≡ string_bytes page.old ++ spec.change_row row.now) }
+    ensures { OnOk result (string_bytes page.new ≡ string_bytes page.old ++ row_html spec.change_frame (spec.change_cells row.now)) }
 {
-    push_change_place(row.place, page)?;
-    push_change_clients(alloc, row.first, row.last, page)?;
-    push_verdict_cell(&row.before, page)?;
-    push_verdict_end(&row.after, page)
+    let span = Span {
+        first: row.first,
+        last: row.last,
+    };
+    let before = verdict_parts(&row.before);
+    let after = verdict_parts(&row.after);
+    let cells: [&[Part<'_>]; 5] = [
+        &[place_part(row.place)],
+        &[Part::Range(span)],
+        &[Part::Number(span_size(span))],
+        &before,
+        &after,
+    ];
+    push_row(alloc, &CHANGES, &cells, page)
 }
 
-/// Begins a row with the name of its place.
-fn push_change_place(place: Place<'_>, page: &mut String) -> Result<(), AllocError>
-    ensures { OnOk result (string_bytes page.new ≡ string_bytes page.old ++ spec.change_place (place_of place.entry)) }
+/// Returns a verdict in words.
+fn verdict_parts<'a>(verdict: &Verdict<'a>) -> [Part<'a>; 5]
+    ensures { map item_of result ≡ spec.verdict_items (verdict_result verdict.now) }
 {
-    page.push_str("<tr><th scope=\"row\">")?;
-    push_place_name(place, page)?;
-    page.push_str("</th><td>")
-}
-
-/// Adds the name of a place.
-fn push_place_name(place: Place<'_>, page: &mut String) -> Result<(), AllocError>
-    ensures { OnOk result (string_bytes page.new ≡ string_bytes page.old ++ spec.place_name (place_of place.entry)) }
-{
-    match place {
-        Place::Directory(path) => push_code(path.text(), page),
-        Place::Others(_) => page.push_str("other directories"),
+    let badge = badge_part(Class::of(verdict));
+    match *verdict {
+        Verdict::Granted { line, terms, .. } => [
+            badge,
+            Part::Words(" line "),
+            Part::Digits(line),
+            Part::Words(": "),
+            Part::Terms(terms),
+        ],
+        Verdict::Denied(_) => [
+            badge,
+            Part::Nothing,
+            Part::Nothing,
+            Part::Nothing,
+            Part::Nothing,
+        ],
     }
-}
-
-/// Adds for which addresses something changes, and how many they are.
-fn push_change_clients(
-    alloc: Global,
-    first: Addr,
-    last: Addr,
-    page: &mut String,
-) -> Result<(), AllocError>
-    ensures { OnOk result (string_bytes page.new ≡ string_bytes page.old ++ spec.change_clients (number_of first) (number_of last)) }
-{
-    push_range(first, last, page)?;
-    page.push_str("</td><td class=\"num\">")?;
-    push_number(alloc, count_between(first, last), page)?;
-    page.push_str("</td>")
-}
-
-/// Counts the addresses from the first to the last.
-fn count_between(first: Addr, last: Addr) -> u64
-    ensures { result ≡ spec.count_between (number_of first) (number_of last) }
-{
-    (u64::from(last.number()) + 1).saturating_sub(u64::from(first.number()))
-}
-
-/// Adds the cell of a verdict.
-fn push_verdict_cell(verdict: &Verdict<'_>, page: &mut String) -> Result<(), AllocError>
-    ensures { OnOk result (string_bytes page.new ≡ string_bytes page.old ++ spec.verdict_cell (verdict_result verdict.now)) }
-{
-    page.push_str("<td>")?;
-    push_verdict(verdict, page)?;
-    page.push_str("</td>")
-}
-
-/// Adds the cell of a verdict, and ends the row.
-fn push_verdict_end(verdict: &Verdict<'_>, page: &mut String) -> Result<(), AllocError>
-    ensures { OnOk result (string_bytes page.new ≡ string_bytes page.old ++ spec.verdict_end (verdict_result verdict.now)) }
-{
-    push_verdict_cell(verdict, page)?;
-    page.push_str("</tr>\n")
-}
-
-/// Adds a verdict in words.
-fn push_verdict(verdict: &Verdict<'_>, page: &mut String) -> Result<(), AllocError>
-    ensures { OnOk result (string_bytes page.new ≡ string_bytes page.old ++ spec.verdict_words (verdict_result verdict.now)) }
-{
-    match verdict {
-        Verdict::Granted { line, terms, .. } => push_grant_words(*line, terms, page),
-        Verdict::Denied(_) => push_badge(Class::Denied, page),
-    }
-}
-
-/// Adds by which line a mount is granted, and on what terms.
-fn push_grant_words(line: u32, terms: &Terms, page: &mut String) -> Result<(), AllocError>
-    ensures { OnOk result (string_bytes page.new ≡ string_bytes page.old ++ spec.grant_words line terms.now) }
-{
-    push_badge(Class::of_terms(terms), page)?;
-    push_line_words(line, page)?;
-    push_terms(terms, page)
-}
-
-/// Adds the number of a line.
-fn push_line_words(line: u32, page: &mut String) -> Result<(), AllocError>
-    ensures { OnOk result (string_bytes page.new ≡ string_bytes page.old ++ spec.line_words line) }
-{
-    write!(page, " line {line}: ")
 }

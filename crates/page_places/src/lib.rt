@@ -23,6 +23,7 @@ pub mod openings;
 pub mod rows;
 pub mod tables;
 mod unlisted_places;
+pub mod widening;
 
 pub use change_rows::{ChangeRow, push_changes};
 pub use changes::{Changes, changes_of};
@@ -32,3 +33,4 @@ pub use listed_laws::{changes_are_of_whole, listed_add_up};
 pub use listing::{ListedGroups, listed_groups};
 pub use lists::{push_groups_start, push_not_listed};
 pub use openings::PlaceOpening;
+pub use widening::count_widening;

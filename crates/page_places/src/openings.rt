@@ -1,17 +1,17 @@
 //! What the server grants of directories that are denied here.
 
-ghost use Rattle.std.specs.Prelude.{◌≡◌, ◌++◌, OnOk, codes, map};
+ghost use Rattle.std.specs.Prelude.{◌≡◌, ◌++◌, ◌∷◌, IfOk, OnOk, map};
 ghost use Rattle.std.specs.List.{flat_map};
 ghost use Rattle.std.specs.String.{string_bytes};
-ghost use Rattle.desk_text.specs.Address.{addr_text, number_of};
-ghost use Rattle.desk_impact.specs.Places.{place_of};
+ghost use Rattle.page_html.specs.Parts.{item_of};
+ghost use Rattle.page_findings.specs.Joining.{comma};
 ghost use Rattle.page_places.specs.Openings as spec;
-ghost use Rattle.page_places.specs.Openings.{opening_value};
 
+use crate::names::place_part;
 use desk_impact::Place;
 use desk_tables::FsId;
 use desk_text::Addr;
-use page_html::{push_and_more, push_code, push_line_link};
+use page_html::{Element, Part, Span, push_element};
 use std::alloc::{AllocError, Global};
 
 /// So many of them are told.
@@ -35,105 +35,86 @@ pub(crate) fn push_openings(
     openings: &[PlaceOpening<'_>],
     page: &mut String,
 ) -> Result<(), AllocError>
-    ensures { OnOk result (string_bytes page.new ≡ string_bytes page.old ++ spec.openings_text fs.0 (map opening_value openings.now)) }
+    ensures { OnOk result (string_bytes page.new ≡ string_bytes page.old ++ spec.openings_text fs.0 openings.now) }
 {
-    match openings {
-        [] => Ok(()),
-        [_, ..] => push_told(alloc, fs, openings, page),
+    if openings.is_empty() {
+        return Ok(());
     }
+    let parts = told_parts(alloc, fs, openings)?;
+    push_element(alloc, Element::Paragraph, parts.as_slice(), page)
 }
 
-/// Adds what the server grants.
-fn push_told(
+/// Gathers the first of what the server grants, and how many more there are.
+fn told_parts<'a>(
     alloc: Global,
     fs: FsId,
-    openings: &[PlaceOpening<'_>],
-    page: &mut String,
-) -> Result<(), AllocError>
-    ensures { OnOk result (string_bytes page.new ≡ string_bytes page.old ++ spec.told_openings fs.0 (map opening_value openings.now)) }
+    openings: &[PlaceOpening<'a>],
+) -> Result<Vec<Part<'a>>, AllocError>
+    ensures { IfOk result (λ parts. map item_of parts.items ≡ spec.told_items fs.0 openings.now) }
 {
-    page.push_str("<p>mountd(8) grants more: ")?;
-    push_some(alloc, fs, openings, page)?;
-    page.push_str("</p>\n")?;
-    Ok(())
-}
-
-/// Adds the first of them, and how many more there are.
-fn push_some(
-    alloc: Global,
-    fs: FsId,
-    openings: &[PlaceOpening<'_>],
-    page: &mut String,
-) -> Result<(), AllocError>
-    ensures { OnOk result (string_bytes page.new ≡ string_bytes page.old ++ spec.some_openings fs.0 (map opening_value openings.now)) }
-{
-    if openings.len() <= MOST {
-        return push_list(fs, openings, page);
-    }
-    let (told, others) = openings.split_at(MOST);
-    push_list(fs, told, page)?;
-    push_and_more(alloc, others.len() as u64, page)
+    let (told, others) = openings.split_at(MOST.min(openings.len()));
+    let mut parts = Vec::new(alloc);
+    parts.push(Part::Words("mountd(8) grants more: "))?;
+    push_list(fs, told, &mut parts)?;
+    parts.push(Part::AndMore(others.len() as u64))?;
+    Ok(parts)
 }
 
 /// Adds them with commas between them.
-fn push_list(fs: FsId, openings: &[PlaceOpening<'_>], page: &mut String) -> Result<(), AllocError>
-    ensures { OnOk result (string_bytes page.new ≡ string_bytes page.old ++ spec.opening_list fs.0 (map opening_value openings.now)) }
+fn push_list<'a>(
+    fs: FsId,
+    openings: &[PlaceOpening<'a>],
+    parts: &mut Vec<Part<'a>>,
+) -> Result<(), AllocError>
+    ensures { OnOk result (map item_of parts.new.items ≡ map item_of parts.old.items ++ spec.opening_list fs.0 openings.now) }
 {
     match openings {
         [] => Ok(()),
         [first, others @ ..] => {
-            push_opening(fs, first, page)?;
-            push_later(fs, others, page)
+            push_opening(fs, first, parts)?;
+            push_later(fs, others, parts)
         }
     }
 }
 
 /// Adds those behind the first.
-fn push_later(fs: FsId, openings: &[PlaceOpening<'_>], page: &mut String) -> Result<(), AllocError>
-    ensures { OnOk result (string_bytes page.new
-        ≡ string_bytes page.old ++ flat_map (λ one. codes ", " ++ spec.opening_words fs.0 one) (map opening_value openings.now)) }
+fn push_later<'a>(
+    fs: FsId,
+    openings: &[PlaceOpening<'a>],
+    parts: &mut Vec<Part<'a>>,
+) -> Result<(), AllocError>
+    ensures { OnOk result (map item_of parts.new.items
+        ≡ map item_of parts.old.items ++ flat_map (λ one. comma ∷ spec.opening_items fs.0 one) openings.now) }
 {
     for one in openings {
-        page.push_str(", ")?;
-        push_opening(fs, one, page)?;
+        parts.push(Part::Words(", "))?;
+        push_opening(fs, one, parts)?;
     }
     Ok(())
 }
 
 /// Adds what the server grants to whom, by which line, and which line denies it.
-fn push_opening(fs: FsId, one: &PlaceOpening<'_>, page: &mut String) -> Result<(), AllocError>
-    ensures { OnOk result (string_bytes page.new ≡ string_bytes page.old ++ spec.opening_words fs.0 (opening_value one.now)) }
+fn push_opening<'a>(
+    fs: FsId,
+    one: &PlaceOpening<'a>,
+    parts: &mut Vec<Part<'a>>,
+) -> Result<(), AllocError>
+    ensures { OnOk result (map item_of parts.new.items ≡ map item_of parts.old.items ++ spec.opening_items fs.0 one.now) }
 {
-    push_place(one.place, page)?;
-    push_to(one.address, page)?;
-    push_by(fs, one.line, one.denied, page)
-}
-
-/// Adds the place.
-fn push_place(place: Place<'_>, page: &mut String) -> Result<(), AllocError>
-    ensures { OnOk result (string_bytes page.new ≡ string_bytes page.old ++ spec.place_words (place_of place.entry)) }
-{
-    match place {
-        Place::Directory(path) => push_code(path.text(), page),
-        Place::Others(_) => page.push_str("other directories"),
-    }
-}
-
-/// Adds the client.
-fn push_to(address: Addr, page: &mut String) -> Result<(), AllocError>
-    ensures { OnOk result (string_bytes page.new ≡ string_bytes page.old ++ spec.to_words (number_of address)) }
-{
-    write!(page, " to {address}")
-}
-
-/// Adds the line by which the server grants, and the one by which it is denied.
-fn push_by(fs: FsId, line: u32, denied: u32, page: &mut String) -> Result<(), AllocError>
-    ensures { OnOk result (string_bytes page.new ≡ string_bytes page.old ++ spec.by_words fs.0 line denied) }
-{
-    page.push_str(" by ")?;
-    push_line_link(fs, line, page)?;
-    page.push_str(" (denied here by ")?;
-    push_line_link(fs, denied, page)?;
-    page.push_str(")")?;
+    let client = Span {
+        first: one.address,
+        last: one.address,
+    };
+    let more = [
+        place_part(one.place),
+        Part::Words(" to "),
+        Part::Range(client),
+        Part::Words(" by "),
+        Part::LineLink(fs, one.line),
+        Part::Words(" (denied here by "),
+        Part::LineLink(fs, one.denied),
+        Part::Words(")"),
+    ];
+    parts.extend_from_slice(&more)?;
     Ok(())
 }

@@ -1,18 +1,19 @@
 //! The table of who may mount some directories.
 
-ghost use Rattle.std.specs.Prelude.{◌≡◌, ◌≤◌, ◌^◌, ◌++◌, All, IfSome, OnOk, map};
+ghost use Rattle.std.specs.Prelude.{◌≡◌, ◌≤◌, ◌++◌, All, OnOk, map};
 ghost use Rattle.std.specs.String.{string_bytes};
-ghost use Rattle.page_places.specs.Names.{members_value};
-ghost use Rattle.page_places.specs.Rows.{row_text, row_value};
-ghost use Rattle.page_places.specs.Tables as spec;
 ghost use Rattle.desk_policy.specs.Verdict.{verdict_result};
+ghost use Rattle.page_html.specs.Tables.{rows_html};
+ghost use Rattle.page_places.specs.Names.{members_value};
+ghost use Rattle.page_places.specs.Rows.{cells, row_value, verdict_frame};
+ghost use Rattle.page_places.specs.Tables as spec;
 
-use crate::names::{Members, Spot, push_caption_words};
-use crate::rows::{push_others_row, push_row};
+use crate::names::{Members, caption_of};
+use crate::rows::{VERDICTS, push_others_row, push_verdict_row};
 use desk_policy::Verdict;
 use desk_tables::FsId;
 use page_data::{Table, TableRow};
-use page_html::push_plural;
+use page_html::{Element, Part, Tag, push_element, push_table_start, push_tag};
 use std::alloc::{AllocError, Global};
 
 /// How many rows of a table stand in the open.
@@ -48,20 +49,14 @@ fn push_folded_table(
     ensures { OnOk result (string_bytes page.new
         ≡ string_bytes page.old ++ spec.folded_table fs.0 (members_value members.now) (spec.told_value table.now)) }
 {
-    push_table_summary(alloc, granting(table.rows.as_slice()), page)?;
+    let count = granting(table.rows.as_slice());
+    let summary = [
+        Part::Plural(count, "line", "lines"),
+        Part::Words(" that grant it"),
+    ];
+    push_element(alloc, Element::Fold, &summary, page)?;
     push_table(alloc, fs, members, table, page)?;
-    page.push_str("</details>\n")
-}
-
-/// Returns how many addresses everybody else has, if verdicts that deny are joined.
-fn others_of(table: &Table<'_>) -> Option<u64>
-    ensures { result ≡ spec.others_of table.now }
-{
-    if table.denials == 0 {
-        None
-    } else {
-        Some(table.others)
-    }
+    push_tag(Tag::FoldEnd, page)
 }
 
 /// Counts the rows of a table.
@@ -94,15 +89,6 @@ fn grants_one(verdict: &Verdict<'_>) -> u64
     }
 }
 
-/// Begins a table that is folded, given how many lines grant.
-fn push_table_summary(alloc: Global, count: u64, page: &mut String) -> Result<(), AllocError>
-    ensures { OnOk result (string_bytes page.new ≡ string_bytes page.old ++ spec.table_summary count) }
-{
-    page.push_str("<details><summary>")?;
-    push_plural(alloc, count, "line", "lines", page)?;
-    page.push_str(" that grant it</summary>\n")
-}
-
 /// Adds the table of who may mount directories.
 fn push_table(
     alloc: Global,
@@ -114,44 +100,15 @@ fn push_table(
     requires { spec.HasSizes (spec.told_value table.now) }
     ensures { OnOk result (string_bytes page.new ≡ string_bytes page.old ++ spec.table fs.0 (members_value members.now) (spec.told_value table.now)) }
 {
-    push_table_box(alloc, members, page)?;
-    push_caption(alloc, members, page)?;
+    let caption = caption_of(alloc, members)?;
+    push_table_start(alloc, &VERDICTS, caption.as_slice(), page)?;
     push_rows(alloc, fs, table.rows.as_slice(), page)?;
-    push_table_end(alloc, others_of(table), page)
-}
-
-/// Begins the box of a table, which is called by the directories.
-fn push_table_box(alloc: Global, members: &Members<'_>, page: &mut String) -> Result<(), AllocError>
-    ensures { OnOk result (string_bytes page.new ≡ string_bytes page.old ++ spec.table_box (members_value members.now)) }
-{
-    page.push_str(
-        "<div class=\"wide\" tabindex=\"0\" role=\"region\" aria-label=\"Who may mount ",
-    )?;
-    push_caption_words(alloc, Spot::Attribute, members, page)?;
-    page.push_str("\"><table class=\"v\">\n")
-}
-
-/// Adds the caption, and the heads of the columns.
-fn push_caption(alloc: Global, members: &Members<'_>, page: &mut String) -> Result<(), AllocError>
-    ensures { OnOk result (string_bytes page.new ≡ string_bytes page.old ++ spec.caption (members_value members.now)) }
-{
-    page.push_str("<caption class=\"off\">Who may mount ")?;
-    push_caption_words(alloc, Spot::Element, members, page)?;
-    push_heads(page)
-}
-
-/// Ends the caption, and adds the heads of the columns.
-#[tactic(auto, unfolding(crate::specs::Tables::heads))]
-fn push_heads(page: &mut String) -> Result<(), AllocError>
-    ensures { OnOk result (string_bytes page.new ≡ string_bytes page.old ++ spec.heads) }
-{
-    page.push_str(
-        "</caption>\n<thead><tr><th scope=\"col\">Verdict</th><th scope=\"col\">Clients</th><th scope=\"col\" class=\"num\">Addresses</th><th scope=\"col\">By, and on what terms</th></tr></thead>\n<tbody>\n",
-    )
+    push_others(alloc, table, page)?;
+    push_tag(Tag::TableEnd, page)
 }
 
 /// Adds a row for each verdict.
-#[tactic(auto, unfolding(crate::specs::Tables::rows_text))]
+#[tactic(auto, unfolding(page_html::specs::Tables::rows_html))]
 fn push_rows(
     alloc: Global,
     fs: FsId,
@@ -159,30 +116,21 @@ fn push_rows(
     page: &mut String,
 ) -> Result<(), AllocError>
     requires { All spec.HasSize (map row_value rows.now) }
-    ensures { OnOk result (string_bytes page.new ≡ string_bytes page.old ++ spec.rows_text fs.0 (map row_value rows.now)) }
+    ensures { OnOk result (string_bytes page.new ≡ string_bytes page.old ++ rows_html verdict_frame (map (λ row. cells fs.0 (row_value row)) rows.now)) }
 {
     for row in rows {
-        push_row(alloc, fs, row, page)?;
+        push_verdict_row(alloc, fs, row, page)?;
     }
     Ok(())
 }
 
-/// Adds the row of everybody else, if it is told, and ends the table.
-fn push_table_end(alloc: Global, others: Option<u64>, page: &mut String) -> Result<(), AllocError>
-    requires { IfSome others (λ count. count ≤ 2 ^ 32) }
-    ensures { OnOk result (string_bytes page.new ≡ string_bytes page.old ++ spec.table_end others) }
+/// Adds the row of everybody else, if verdicts that deny are joined.
+fn push_others(alloc: Global, table: &Table<'_>, page: &mut String) -> Result<(), AllocError>
+    ensures { OnOk result (string_bytes page.new ≡ string_bytes page.old ++ spec.others_text (spec.others_of table.now)) }
 {
-    push_others(alloc, others, page)?;
-    page.push_str("</tbody>\n</table></div>\n")
-}
-
-/// Adds the row of everybody else, if it is told.
-fn push_others(alloc: Global, others: Option<u64>, page: &mut String) -> Result<(), AllocError>
-    requires { IfSome others (λ count. count ≤ 2 ^ 32) }
-    ensures { OnOk result (string_bytes page.new ≡ string_bytes page.old ++ spec.others_text others) }
-{
-    match others {
-        Some(count) => push_others_row(alloc, count, page),
-        None => Ok(()),
+    if table.denials == 0 {
+        Ok(())
+    } else {
+        push_others_row(alloc, table.others, page)
     }
 }

@@ -4,3 +4,4 @@ mod Parts
 pub mod Pieces
 mod Sites
 mod Waits
+mod Widening

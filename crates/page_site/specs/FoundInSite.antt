@@ -14,6 +14,7 @@ use Rattle.page_data.specs.declared.lines.LineReasons.{LineReasons}
 use Rattle.page_findings.specs.Lines.{AreLinesOfSite, AreReasonsOfSite, LineValue}
 use Rattle.page_findings.specs.Deciding.{AreDecidedFor, DecidedFor}
 use Rattle.page_maps.specs.Figures.{GainsOverviewMaps}
+use Rattle.page_summary.specs.Proposals.{ProposalValue}
 use Rattle.page_site.specs.WaitingProposals.{Waiting}
 
 -- what a page is made of: the policy in force and its tables, the newest revisions and the proposals, in no order, those of these for
@@ -27,13 +28,15 @@ pub record Source : Type 0 where
   pub openings : List (PlaceFound Opening)
 
 -- what is found of it: of each file system; why each line stands out, and which lines decide in place of those that never do, by file
--- system; the lines of the whole site; and the cells of small maps, of all file systems together and then of each
+-- system; the lines of the whole site; the cells of small maps, of all file systems together and then of each; and the proposals by which
+-- clients may do more
 pub record Found : Type 0 where
   pub systems : List SystemValue
   pub reasons : List (List LineReasons)
   pub decided : List (List DecidedFor)
   pub lines : List LineValue
   pub maps : List (List ℕ)
+  pub widening : List ProposalValue
 
 -- which lines decide in place of those that never do, by file system, in the order of their table
 pub record AreDecidedOfSite (content : Content) (reasons : List (List LineReasons)) (decided : List (List DecidedFor)) : Type 0 where

@@ -2,9 +2,11 @@ pub mod Pieces
 pub mod WaitingProposals
 pub mod FoundInSite
 pub mod SystemParts
+pub mod WideningProposals
 pub mod Page
 pub mod Given
 pub mod PrivateSystemParts
+pub mod PrivateWidening
 pub mod PrivateForeseenSites
 pub mod PrivatePage
 pub mod PrivateSections

@@ -31,11 +31,13 @@ use Rattle.page_lists.specs.Warnings.{AddsWarnings}
 use Rattle.page_summary.specs.FindingRows.{AreFindingRows, findings_text}
 use Rattle.page_summary.specs.FlavoursRows.{AreFlavoursRows}
 use Rattle.page_summary.specs.KeyFigures.{AreKeyFigures}
+use Rattle.page_summary.specs.Proposals.{standing_proposals}
 use Rattle.page_summary.specs.SystemRows.{AreOverviewRows, SiteParts, overview_text}
 use Rattle.page_site.specs.SystemParts.{AreSystemTexts}
 use Rattle.page_site.specs.FoundInSite.{Found, IsFound, Source}
 use Rattle.page_site.specs.Pieces.{Just, Then, Told}
 use Rattle.page_site.specs.WaitingProposals.{AreWaiting}
+use Rattle.page_site.specs.WideningProposals.{AreWidening}
 
 -- the header: the word for the database, how many revisions and files it has, and the digest of its state
 pub record IsHeader (heads : List Head) (proposals : List Proposal) (word : List ℕ) (told : Header) : Type 0 where
@@ -48,12 +50,13 @@ pub record IsHeader (heads : List Head) (proposals : List Proposal) (word : List
 abbrev pub IsBeginning : List Head → List Proposal → List ℕ → List ℕ → Type 0
 IsBeginning heads proposals word = Then (Just (page_head word)) (Then (Just shapes) (Told (IsHeader heads proposals word) header))
 
--- the summary, which its key figures begin: these, the lines that stand out, and the security flavours
+-- the summary, which its key figures begin: these, the proposals and the lines that stand out, and the security flavours
 abbrev pub IsSummary : Content → List Head → List Proposal → Found → List ℕ → Type 0
 IsSummary content heads proposals found =
     Then (Told (AreKeyFigures content found.lines proposals) figures)
+    (Then (Just (standing_proposals content.table found.widening))
     (Then (Told (AreFindingRows content.table heads found.decided found.lines) findings_text)
-    (Then (Told (AreFlavoursRows content.table found.lines) flavours_table) (Just section_end)))
+    (Then (Told (AreFlavoursRows content.table found.lines) flavours_table) (Just section_end))))
 
 -- a section with its heading
 abbrev pub InSection : Section → (List ℕ → Type 0) → List ℕ → Type 0
@@ -124,4 +127,5 @@ pub record IsPageOf (heads : List Head) (proposals : List Proposal) (word page :
   pub is_source : IsSource source
   pub found : Found
   pub is_found : IsFound source.content found
+  pub widening : AreWidening source.content source.waiting found.widening
   pub is : IsPage source found word page

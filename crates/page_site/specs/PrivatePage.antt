@@ -1,16 +1,17 @@
 -- What the private contracts of the page cite.
 use Rattle.std.specs.Prelude.{All, List, map}
 use Rattle.std.specs.String.{string_bytes}
-use Rattle.desk_policy.specs.Policy.{Content}
 use Rattle.desk_core.specs.Head.{CanBeKept}
 use Rattle.page_findings.specs.Deciding.{AreInLineOrder, DecidedFor, deciding_value}
 use Rattle.page_findings.specs.Lines.{AreReasonsOfSite, LineValue}
 use Rattle.page_data.specs.Laws.{IsSoundSite}
 use Rattle.page_data.specs.Systems.{SystemValue}
+use Rattle.page_summary.specs.Proposals.{proposal_value}
 use Rattle.page_site.specs.SystemParts.{TellingValue}
 use Rattle.page_site.specs.FoundInSite.{AreDecidedOfSite, AreSmallMaps, Found, Source}
 use Rattle.page_site.specs.Given.{HasReadableText}
 use Rattle.page_site.specs.Page.{IsSource}
+use Rattle.page_site.specs.WideningProposals.{AreWidening}
 use Rattle.page_site.specs.declared.page.FoundOfSite.{FoundOfSite}
 
 -- what the page is made of is of a site, which is sound, and its texts are not too long to be read
@@ -39,11 +40,13 @@ found_by systems found lines = record {
   decided = map deciding_value found.deciding.now;
   lines = lines;
   maps = map string_bytes found.maps.now;
+  widening = map proposal_value found.widening.now;
 }
 
 -- This is found beside the lines, given what is found of each file system.
-pub record IsFoundOfSite (content : Content) (systems : List SystemValue) (found : FoundOfSite) : Type 0 where
-  pub reasons : AreReasonsOfSite content found.reasons.now
-  pub decided : AreDecidedOfSite content found.reasons.now (map deciding_value found.deciding.now)
+pub record IsFoundOfSite (source : Source) (systems : List SystemValue) (found : FoundOfSite) : Type 0 where
+  pub reasons : AreReasonsOfSite source.content found.reasons.now
+  pub decided : AreDecidedOfSite source.content found.reasons.now (map deciding_value found.deciding.now)
   pub order : All AreInLineOrder (map deciding_value found.deciding.now)
-  pub maps : AreSmallMaps content systems (map string_bytes found.maps.now)
+  pub maps : AreSmallMaps source.content systems (map string_bytes found.maps.now)
+  pub widening : AreWidening source.content source.waiting (map proposal_value found.widening.now)

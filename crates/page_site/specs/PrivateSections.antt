@@ -5,6 +5,7 @@ use Rattle.page_findings.specs.Deciding.{AreInLineOrder, deciding_value}
 use Rattle.page_findings.specs.Lines.{line_value}
 use Rattle.page_data.specs.Laws.{IsSoundSite}
 use Rattle.page_data.specs.Systems.{system_value}
+use Rattle.page_summary.specs.Proposals.{proposal_value}
 use Rattle.page_site.specs.FoundInSite.{Found, IsFound}
 use Rattle.page_site.specs.declared.sections.Parts.{Parts}
 
@@ -16,6 +17,7 @@ parts_found parts = record {
   decided = map deciding_value parts.deciding.now;
   lines = map line_value parts.lines.now;
   maps = map string_bytes parts.maps.now;
+  widening = map proposal_value parts.widening.now;
 }
 
 -- It is found of a sound policy, and the lines that decide are told in the order of those for which they do.

@@ -13,6 +13,7 @@ mod sections;
 pub mod state_page;
 mod system_parts;
 pub mod waiting_proposals;
+mod widening_proposals;
 
 pub use page::{ReportedSite, report_page};
 pub use state_page::page_of_state;

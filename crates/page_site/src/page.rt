@@ -24,6 +24,7 @@ use crate::found_in_site::{deciding_of_site, small_maps};
 use crate::sections::{Listed, Parts, push_back, push_front};
 use crate::system_parts::{Telling, push_systems};
 use crate::waiting_proposals::Waiting;
+use crate::widening_proposals::widening_of;
 use desk_core::{Head, Proposal};
 use desk_impact::Section as PlaceSection;
 use desk_policy::{Policy, PolicyView, SiteTables};
@@ -32,7 +33,7 @@ use page_data::{
     FileSystemReport, LineReasons, Opening, ServerFindings, sites_are_sound, systems_of_site,
 };
 use page_findings::{Deciding, SiteLine, lines_of_site, reasons_of_site};
-use page_summary::{Section, push_section_end, push_section_start};
+use page_summary::{ProposalRow, Section, push_section_end, push_section_start};
 use std::alloc::{AllocError, Global};
 
 /// What a page is made of.
@@ -54,13 +55,14 @@ pub struct ReportedSite<'a, V> {
     pub openings: &'a [PlaceSection<'a, Opening>],
 }
 
-/// What is found of a site beside its lines: why each of them stands out, which others decide in place of those that never do, and the
-/// cells of small maps.
+/// What is found of a site beside its lines: why each of them stands out, which others decide in place of those that never do, the cells of
+/// small maps, and the proposals by which clients may do more.
 #[derive(Clone, Copy)]
 pub(crate) struct FoundOfSite<'a> {
     pub reasons: &'a [Sequence<LineReasons<'a>>],
     pub deciding: &'a [Deciding],
     pub maps: &'a [String],
+    pub widening: &'a [ProposalRow<'a>],
 }
 
 /// Makes the page of a site, given the word that names its database.
@@ -114,10 +116,12 @@ fn page_with_systems<V: PolicyView>(
     let reasons = reasons_of_site(alloc, policy, systems.as_slice(), site.server)?;
     let deciding = deciding_of_site(alloc, policy, systems.as_slice(), reasons.as_slice())?;
     let maps = small_maps(alloc, policy, systems.as_slice())?;
+    let widening = widening_of(alloc, site)?;
     let found = FoundOfSite {
         reasons: reasons.as_slice(),
         deciding: deciding.as_slice(),
         maps: maps.as_slice(),
+        widening: widening.as_slice(),
     };
     page_with_reasons(alloc, database, site, &found, systems)
 }
@@ -132,7 +136,7 @@ fn page_with_reasons<V: PolicyView>(
 ) -> Result<String, AllocError>
     requires given { IsGiven (site_source V.in_force site.now) }
     requires systems { AreSystems (V.in_force site.now.view.now) (map system_value systems.items) }
-    requires found { IsFoundOfSite (V.in_force site.now.view.now) (map system_value systems.items) found.now }
+    requires found { IsFoundOfSite (site_source V.in_force site.now) (map system_value systems.items) found.now }
     ensures { IfOk result (λ page. IsPageOf site.now.heads.now site.now.proposals.now database.now (string_bytes page)) }
 {
     let policy = site.view.policy();
@@ -151,7 +155,7 @@ fn page_with_lines<V: PolicyView>(
 ) -> Result<String, AllocError>
     requires given { IsGiven (site_source V.in_force site.now) }
     requires systems { AreSystems (V.in_force site.now.view.now) (map system_value systems.items) }
-    requires found { IsFoundOfSite (V.in_force site.now.view.now) (map system_value systems.items) found.now }
+    requires found { IsFoundOfSite (site_source V.in_force site.now) (map system_value systems.items) found.now }
     requires lines { AreLinesOfSite (V.in_force site.now.view.now) (map line_value lines.now) }
     ensures { IfOk result (λ page. IsPageOf site.now.heads.now site.now.proposals.now database.now (string_bytes page)) }
 {
@@ -185,6 +189,7 @@ fn front_of<V: PolicyView>(
         deciding: found.deciding,
         lines,
         maps: found.maps,
+        widening: found.widening,
     };
     front_by(alloc, database, &parts)
 }

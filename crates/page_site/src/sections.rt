@@ -27,9 +27,9 @@ use page_lists::{
 };
 use page_maps::{push_networks, push_shapes};
 use page_summary::{
-    Header, Section, SystemsData, push_figures_of, push_findings_of, push_flavours_of, push_footer,
-    push_header, push_overview_of, push_section_end, push_section_start, revisions_and_files,
-    state_digest,
+    Header, ProposalRow, Section, SystemsData, push_figures_of, push_findings_of, push_flavours_of,
+    push_footer, push_header, push_overview_of, push_section_end, push_section_start,
+    push_standing_proposals, revisions_and_files, state_digest,
 };
 use std::alloc::{AllocError, Global};
 
@@ -46,6 +46,8 @@ pub(crate) struct Parts<'a> {
     pub lines: &'a [SiteLine<'a>],
     /// The cells of small maps, of all file systems together and then of each.
     pub maps: &'a [String],
+    /// The proposals by which clients may do more.
+    pub widening: &'a [ProposalRow<'a>],
 }
 
 /// What the lists are made of.
@@ -116,6 +118,8 @@ fn push_summary(alloc: Global, parts: &Parts<'_>, page: &mut String) -> Result<(
         (string_bytes page.old) (string_bytes page.new)) }
 {
     push_figures_of(alloc, parts.policy, parts.lines, parts.proposals, page)?;
+    let table = parts.policy.filesystems();
+    push_standing_proposals(alloc, table, parts.widening, page)?;
     push_findings_of(
         alloc,
         parts.policy,

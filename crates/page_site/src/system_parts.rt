@@ -154,7 +154,10 @@ fn push_told<V: PolicyView>(
 }
 
 /// Finds what waits for a file system.
-fn waiting_for<'b, V>(waiting: &'b [Waiting<'b, V>], fs: FsId) -> Option<&'b Waiting<'b, V>>
+pub(crate) fn waiting_for<'b, V>(
+    waiting: &'b [Waiting<'b, V>],
+    fs: FsId,
+) -> Option<&'b Waiting<'b, V>>
     ensures { option_copied result ≡ find (λ one. one.fs.0 == fs.0) waiting.now }
 {
     waiting.iter().find(|one| one.fs.0 == fs.0)

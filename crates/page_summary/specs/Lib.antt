@@ -1,15 +1,14 @@
-pub mod Addresses
 pub mod Figures
 pub mod Findings
 pub mod FlavoursTable
 pub mod Header
 pub mod Overview
 pub mod Sections
-pub mod Tables
 pub mod Adding
 pub mod Files
 pub mod KeyFigures
 pub mod FindingRows
+pub mod Proposals
 pub mod FlavoursRows
 pub mod Reaching
 pub mod SystemRows

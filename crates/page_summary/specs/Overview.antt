@@ -1,91 +1,104 @@
--- The file systems of a site. (this project's own, over HTML)
-use Rattle.std.specs.Prelude.{ℕ, ◌==◌, Bool, List, [], ◌++◌, Option, Some, None, codes, if◌then◌else◌}
-use Rattle.std.specs.Fmt.{decimal}
+-- The file systems of a site. (this project's own)
+use Rattle.std.specs.Prelude.{ℕ, ◌==◌, ◌&&◌, Bool, List, [], ◌∷◌, ◌++◌, Option, Some, None, codes, false, if◌then◌else◌}
 use Rattle.std.specs.List.{flat_map}
 use Rattle.std.specs.Option.{option_copied}
 use Rattle.desk_core.specs.declared.head.Head.{Head}
-use Rattle.page_html.specs.Numbers.{number}
-use Rattle.page_html.specs.Pieces.{code, code_list, system_link, zero}
-use Rattle.page_summary.specs.Tables.{row_end, table_end, table_start}
-use Rattle.page_findings.specs.Badges.{badge}
-use Rattle.page_summary.specs.Addresses.{part_cell}
+use Rattle.page_html.specs.Blocks.{tag_html}
+use Rattle.page_html.specs.Items.{Code, Codes, Digits, Item, Nothing, Own, PartOf, Plural, Strong, System, Words, Zero}
+use Rattle.page_html.specs.Tables.{Column, Count, Frame, Name, Plain, cells_html, table_start}
+use Rattle.page_html.specs.Titles.{Said}
+use Rattle.page_html.specs.declared.blocks.Tag.TheVariants.{TableEnd}
+use Rattle.page_findings.specs.Badges.{badge_item}
 use Rattle.page_data.specs.declared.class.Class.{Class}
 use Rattle.page_summary.specs.declared.overview.Reach.{Reach}
 use Rattle.page_summary.specs.declared.overview.SystemRow.{SystemRow}
 use Rattle.page_summary.specs.declared.overview.TheConstants.{LEGEND}
-use Rattle.page_summary.specs.declared.tables.Table.TheVariants.{Overview}
 
 -- the key of the maps
 unfoldable pub legend : List ℕ
 legend = LEGEND.now
 
--- the badge of what a client may, in a cell
-abbrev pub badge_cell : Class → List ℕ
-badge_cell class = codes "<td>" ++ badge class ++ codes "</td>"
+-- the table, and its columns before the maps and behind them
+abbrev pub before_maps : List Column
+before_maps = Name (codes "File system") ∷ Plain (codes "At the most") ∷ []
 
--- how far file systems reach: the most that an address may, the cells of the maps, and how many addresses may something
-abbrev pub reach_cells : Reach → List ℕ
-reach_cells reach = badge_cell reach.most ++ reach.maps.now ++ part_cell reach.addresses
+abbrev pub behind_maps : List Column
+behind_maps = Count (codes "Addresses") ∷ Plain (codes "Kept by") ∷ Plain (codes "In force") ∷ Plain (codes "Stands out") ∷ []
 
--- the beginning of a row: the file system, and how far it reaches
-abbrev pub system_cells : SystemRow → List ℕ
-system_cells row = codes "<tr><th scope=\"row\">" ++ system_link row.fs.0 row.name.now ++ codes "</th>" ++ reach_cells row.reach
+abbrev pub overview_frame : Frame
+overview_frame = record {
+  class = codes "o";
+  is_titled = false;
+  columns =
+      before_maps
+      ++ Plain (codes "all of IPv4") ∷ Plain (codes "10.0.0.0/8") ∷ Plain (codes "172.16.0.0/12") ∷ Plain (codes "192.168.0.0/16")
+      ∷ behind_maps;
+}
+
+-- a row: the cells before those of the maps, these, and the cells behind them
+abbrev pub row_around : List (List (Item (List ℕ))) → List ℕ → List (List (Item (List ℕ))) → List ℕ
+row_around before maps behind = codes "<tr>" ++ cells_html before_maps before ++ maps ++ cells_html behind_maps behind ++ codes "</tr>\n"
+
+-- how far file systems reach: the most that an address may, and how many of all addresses may something
+abbrev pub most_cell : Reach → List (Item (List ℕ))
+most_cell reach = badge_item reach.most ∷ []
+
+abbrev pub addresses_cell : Reach → List (Item (List ℕ))
+addresses_cell reach = Own (PartOf reach.addresses 4294967296) ∷ []
+
+-- a part, if something is so
+abbrev pub item_if : Bool → Item (List ℕ) → Item (List ℕ)
+item_if is_so item = if is_so then item else Own Nothing
+
+abbrev pub space : Item (List ℕ)
+space = Own (Words (codes " "))
 
 -- who keeps it
-abbrev pub guarded_mark : Bool → List ℕ
-guarded_mark guarded = if guarded then codes " <b>guarded</b>" else []
-
-abbrev pub keepers_cell : List (List ℕ) → Bool → List ℕ
-keepers_cell custodians guarded = codes "<td>" ++ code_list custodians ++ guarded_mark guarded ++ codes "</td>"
+abbrev pub keepers : List (List ℕ) → Bool → List (Item (List ℕ))
+keepers custodians guarded = Codes custodians ∷ item_if guarded space ∷ item_if guarded (Own (Strong (codes "guarded"))) ∷ []
 
 -- its newest revision, as `rev 3 by ada`, and whether a proposal waits
-abbrev pub revision_number : ℕ → List ℕ
-revision_number number = codes "rev " ++ decimal number ++ codes " by "
+abbrev pub waits : Bool → List (Item (List ℕ))
+waits has_proposal = item_if has_proposal space ∷ item_if has_proposal (Own (Strong (codes "proposal waits"))) ∷ []
 
-abbrev pub signed : Head → List ℕ
-signed head = revision_number head.rev ++ code head.author
-
-abbrev pub revision : Option Head → List ℕ
-revision None = codes "none"
-revision (Some head) = signed head
-
-abbrev pub proposal_mark : Bool → List ℕ
-proposal_mark has_proposal = if has_proposal then codes " <b>proposal waits</b>" else []
-
-abbrev pub newest_cell : Option Head → Bool → List ℕ
-newest_cell head has_proposal = codes "<td>" ++ revision head ++ proposal_mark has_proposal ++ codes "</td>"
+abbrev pub in_force : Option Head → Bool → List (Item (List ℕ))
+in_force None has_proposal = Own (Words (codes "none")) ∷ Own Nothing ∷ Own Nothing ∷ Own Nothing ∷ waits has_proposal
+in_force (Some head) has_proposal =
+    Own (Words (codes "rev ")) ∷ Own (Digits head.rev) ∷ Own (Words (codes " by ")) ∷ Code head.author ∷ waits has_proposal
 
 -- how many of its lines stand out: those to look at first, and behind them those to check
-abbrev pub first_level : ℕ → List ℕ
-first_level count = number count ++ codes " look first"
+abbrev pub first_level : ℕ → Item (List ℕ)
+first_level count = Own (Plural count (codes "look first") (codes "look first"))
 
-abbrev pub second_level : ℕ → List ℕ
-second_level count = number count ++ codes " check"
+abbrev pub second_level : ℕ → Item (List ℕ)
+second_level count = Own (Plural count (codes "check") (codes "check"))
 
-abbrev pub both_levels : ℕ → ℕ → List ℕ
-both_levels first check = first_level first ++ codes ", " ++ second_level check
-
-abbrev pub check_alone : ℕ → List ℕ
-check_alone check = if check == 0 then zero (codes "nothing") else second_level check
-
-abbrev pub levels : ℕ → ℕ → List ℕ
-levels first check = if first == 0 then check_alone check else if check == 0 then first_level first else both_levels first check
-
-abbrev pub standing_out_cell : ℕ → ℕ → List ℕ
-standing_out_cell first check = codes "<td>" ++ levels first check ++ codes "</td>"
+abbrev pub standing_out : ℕ → ℕ → List (Item (List ℕ))
+standing_out first check =
+    if first == 0 && check == 0 then Own (Zero (codes "nothing")) ∷ Own Nothing ∷ Own Nothing ∷ []
+    else (if first == 0 then second_level check ∷ Own Nothing ∷ Own Nothing ∷ []
+    else (if check == 0 then first_level first ∷ Own Nothing ∷ Own Nothing ∷ []
+    else first_level first ∷ Own (Words (codes ", ")) ∷ second_level check ∷ []))
 
 -- a row for a file system, and the one for all together
 abbrev pub row : SystemRow → List ℕ
 row system =
-    system_cells system ++ keepers_cell system.custodians.now system.guarded ++ newest_cell (option_copied system.head) system.has_proposal
-    ++ standing_out_cell system.first system.check ++ row_end
+    row_around ((System system.fs.0 system.name.now ∷ []) ∷ most_cell system.reach ∷ []) system.reach.maps.now
+    (addresses_cell system.reach ∷ keepers system.custodians.now system.guarded ∷ in_force (option_copied system.head) system.has_proposal
+    ∷ standing_out system.first system.check ∷ [])
 
 unfoldable pub rows : List SystemRow → List ℕ
 rows systems = flat_map row systems
 
 abbrev pub any_row : Reach → List ℕ
-any_row together = codes "<tr><th scope=\"row\"><b>any of them</b></th>" ++ reach_cells together ++ codes "<td></td><td></td><td></td></tr>\n"
+any_row together =
+    row_around ((Own (Strong (codes "any of them")) ∷ []) ∷ most_cell together ∷ []) together.maps.now
+    (addresses_cell together ∷ [] ∷ [] ∷ [] ∷ [])
 
 -- the key of the maps, and the table
+abbrev pub overview_start : List ℕ
+overview_start =
+    table_start overview_frame (Said (codes "The file systems, and where the clients are that may mount some directory of them") ∷ [])
+
 abbrev pub overview : Reach → List SystemRow → List ℕ
-overview together systems = legend ++ table_start Overview ++ any_row together ++ rows systems ++ table_end
+overview together systems = legend ++ overview_start ++ any_row together ++ rows systems ++ tag_html TableEnd

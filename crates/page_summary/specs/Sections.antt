@@ -1,5 +1,7 @@
 -- The sections of the page, and its end. (this project's own, over HTML)
 use Rattle.std.specs.Prelude.{ℕ, List, codes}
+use Rattle.page_html.specs.Blocks.{tag_html}
+use Rattle.page_html.specs.declared.blocks.Tag.TheVariants.{PageEnd, SectionEnd}
 use Rattle.page_summary.specs.declared.sections.Section.{Section}
 use Rattle.page_summary.specs.declared.sections.Section.TheVariants.{Each, Files, Names, Networks, Systems, Warnings}
 
@@ -13,8 +15,8 @@ section_start Names = codes "<section id=\"names\">\n<h2>Netgroups and names</h2
 section_start Files = codes "<section id=\"files\">\n<h2>Files and revisions</h2>\n"
 
 abbrev pub section_end : List ℕ
-section_end = codes "</section>\n"
+section_end = tag_html SectionEnd
 
 -- the end of the page
 abbrev pub footer : List ℕ
-footer = codes "</main>\n</body>\n</html>\n"
+footer = tag_html PageEnd

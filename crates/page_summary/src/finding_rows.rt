@@ -1,6 +1,6 @@
 //! The lines of a site that stand out.
 
-ghost use Rattle.std.specs.Prelude.{◌≡◌, ◌++◌, All, IfOk, OnOk, map};
+ghost use Rattle.std.specs.Prelude.{◌≡◌, All, IfOk, OnOk, map};
 ghost use Rattle.std.specs.String.{string_bytes};
 ghost use Rattle.page_findings.specs.Deciding.{AreInLineOrder, deciding_value};
 ghost use Rattle.page_findings.specs.Lines.{line_value};
@@ -39,7 +39,8 @@ pub fn push_findings_of<'a>(
     let told = site_findings(alloc, found.as_slice(), deciding)?;
     let texts = texts_in_force(alloc, table.as_slice(), heads)?;
     let rows = finding_rows(alloc, table, texts.as_slice(), told.as_slice())?;
-    push_rows(alloc, rows.as_slice(), page)
+    push_counted_findings(alloc, rows.as_slice(), page)?;
+    push_findings(alloc, rows.as_slice(), page)
 }
 
 /// Makes the rows of lines that stand out, given the lines in force of each file system.
@@ -73,12 +74,4 @@ fn finding_row<'a>(
         text: line_in(texts, finding.fs, finding.line),
         count: one.count,
     }
-}
-
-/// Adds how many rows there are, and the rows.
-fn push_rows(alloc: Global, rows: &[FindingRow<'_>], page: &mut String) -> Result<(), AllocError>
-    ensures { OnOk result (string_bytes page.new ≡ string_bytes page.old ++ findings_text rows.now) }
-{
-    push_counted_findings(alloc, rows, page)?;
-    push_findings(alloc, rows, page)
 }

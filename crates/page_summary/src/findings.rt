@@ -1,24 +1,48 @@
 //! The lines of the site that stand out.
 
-ghost use Rattle.std.specs.Prelude.{◌≡◌, ◌++◌, OnOk, count_by};
+ghost use Rattle.std.specs.Prelude.{◌≡◌, ◌++◌, IfOk, OnOk, count_by, length, map};
 ghost use Rattle.std.specs.String.{string_bytes};
+ghost use Rattle.page_html.specs.Parts.{item_of};
+ghost use Rattle.page_html.specs.Tables.{frame_of, row_html, rows_html};
 ghost use Rattle.page_summary.specs.Findings as spec;
 
-use crate::addresses::push_part_cell;
-use crate::tables::{
-    Table, push_fold_end, push_fold_start, push_row_end, push_table_end, push_table_start,
-};
 use page_data::Level;
-use page_findings::{Finding, push_finding_words, push_level_mark};
-use page_html::{push_escaped_line, push_line_link, push_number, push_plural, push_system_link};
+use page_findings::{Finding, finding_parts, level_part};
+use page_html::{
+    Column, Element, Frame, Part, Tag, Title, four_cells, push_element, push_row, push_table_start,
+    push_tag,
+};
 use std::alloc::{AllocError, Global};
 
 /// How many lines that stand out stand in the open.
 const OPEN: usize = 24;
 
-/// What is said of the rules by which lines stand out.
-const RULES: &str =
-    " to check. These are fixed rules over the lines (<a href=\"#read\">below</a>); what the site intends they do not know.</p>\n";
+/// How many addresses there are.
+pub(crate) const SPACE: u64 = 4_294_967_296;
+
+/// Lines that stand out.
+const FINDINGS: Frame = Frame {
+    class: "f",
+    is_titled: false,
+    columns: &[
+        Column::Name("Level"),
+        Column::Plain("Where"),
+        Column::Plain("What, and the line as written"),
+        Column::Count("Addresses"),
+    ],
+};
+
+/// More lines that stand out.
+const MORE_FINDINGS: Frame = Frame {
+    class: "f",
+    is_titled: true,
+    columns: &[
+        Column::Name("Level"),
+        Column::Plain("Where"),
+        Column::Plain("What, and the line as written"),
+        Column::Count("Addresses"),
+    ],
+};
 
 /// A line that stands out, with the name of its file system, its text, and to how many addresses it grants something.
 #[derive(Clone, Copy)]
@@ -37,26 +61,20 @@ pub fn push_counted_findings(
 ) -> Result<(), AllocError>
     ensures { OnOk result (string_bytes page.new ≡ string_bytes page.old ++ spec.counted_findings rows.now) }
 {
-    page.push_str("<h3>What stands out</h3>\n<p>")?;
-    push_levels(alloc, rows, page)?;
-    push_rules(page)?;
-    Ok(())
-}
-
-/// Adds what is said of the rules.
-#[tactic(auto, unfolding(crate::specs::Findings::rules_words))]
-fn push_rules(page: &mut String) -> Result<(), AllocError>
-    ensures { OnOk result (string_bytes page.new ≡ string_bytes page.old ++ spec.rules_words) }
-{
-    page.push_str(RULES)
-}
-
-/// Adds how many lines are of each level.
-fn push_levels(alloc: Global, rows: &[FindingRow<'_>], page: &mut String) -> Result<(), AllocError>
-    ensures { OnOk result (string_bytes page.new ≡ string_bytes page.old ++ spec.levels rows.now) }
-{
     let first = count_first(rows);
-    push_counts(alloc, first as u64, (rows.len() - first) as u64, page)
+    push_element(
+        alloc,
+        Element::Paragraph,
+        &[
+            Part::Plural(first as u64, "line", "lines"),
+            Part::Words(" to look at first, "),
+            Part::Number((rows.len() - first) as u64),
+            Part::Words(" to check. These are fixed rules over the lines ("),
+            Part::Link("read", "below"),
+            Part::Words("); what the site intends they do not know."),
+        ],
+        page,
+    )
 }
 
 /// Counts the lines that are to be looked at first.
@@ -76,16 +94,6 @@ fn is_first(row: &FindingRow<'_>) -> bool
     }
 }
 
-/// Adds two counts.
-fn push_counts(alloc: Global, first: u64, others: u64, page: &mut String) -> Result<(), AllocError>
-    ensures { OnOk result (string_bytes page.new ≡ string_bytes page.old ++ spec.counts first others) }
-{
-    push_plural(alloc, first, "line", "lines", page)?;
-    page.push_str(" to look at first, ")?;
-    push_number(alloc, others, page)?;
-    Ok(())
-}
-
 /// Adds the lines that stand out, in the order given: the first in the open, and the others folded.
 pub fn push_findings(
     alloc: Global,
@@ -95,7 +103,12 @@ pub fn push_findings(
     ensures { OnOk result (string_bytes page.new ≡ string_bytes page.old ++ spec.findings rows.now) }
 {
     if rows.is_empty() {
-        page.push_str("<p>No line stands out by the rules of this report.</p>\n")
+        push_element(
+            alloc,
+            Element::Paragraph,
+            &[Part::Words("No line stands out by the rules of this report.")],
+            page,
+        )
     } else {
         push_open_and_folded(alloc, rows, page)
     }
@@ -110,89 +123,102 @@ fn push_open_and_folded(
     ensures { OnOk result (string_bytes page.new ≡ string_bytes page.old ++ spec.open_and_folded rows.now) }
 {
     if rows.len() <= OPEN {
-        return push_open(alloc, rows, page);
+        return push_table(alloc, &FINDINGS, "Lines that stand out", rows, page);
     }
     let (open, folded) = rows.split_at(OPEN);
-    push_open(alloc, open, page)?;
+    push_table(alloc, &FINDINGS, "Lines that stand out", open, page)?;
     push_folded(alloc, folded, page)
-}
-
-/// Adds rows in the open.
-fn push_open(alloc: Global, rows: &[FindingRow<'_>], page: &mut String) -> Result<(), AllocError>
-    ensures { OnOk result (string_bytes page.new ≡ string_bytes page.old ++ spec.open_rows rows.now) }
-{
-    push_table_start(alloc, Table::Findings, page)?;
-    push_rows(alloc, rows, page)?;
-    push_table_end(page)?;
-    Ok(())
 }
 
 /// Adds rows that are folded.
 fn push_folded(alloc: Global, rows: &[FindingRow<'_>], page: &mut String) -> Result<(), AllocError>
     ensures { OnOk result (string_bytes page.new ≡ string_bytes page.old ++ spec.folded_rows rows.now) }
 {
-    push_fold_start(alloc, rows.len() as u64, "more line", "more lines", page)?;
-    push_table_start(alloc, Table::MoreFindings, page)?;
-    push_rows(alloc, rows, page)?;
-    push_table_end(page)?;
-    push_fold_end(page)?;
-    Ok(())
+    let count = rows.len() as u64;
+    push_element(
+        alloc,
+        Element::Fold,
+        &[Part::Plural(count, "more line", "more lines")],
+        page,
+    )?;
+    push_table(
+        alloc,
+        &MORE_FINDINGS,
+        "More lines that stand out",
+        rows,
+        page,
+    )?;
+    push_tag(Tag::FoldEnd, page)
+}
+
+/// Adds a table of lines.
+fn push_table(
+    alloc: Global,
+    frame: &Frame,
+    title: &'static str,
+    rows: &[FindingRow<'_>],
+    page: &mut String,
+) -> Result<(), AllocError>
+    requires { length frame.now.columns.now ≡ 4 }
+    ensures { OnOk result (string_bytes page.new ≡ string_bytes page.old ++ spec.table (frame_of frame.now) title.now rows.now) }
+{
+    push_table_start(alloc, frame, &[Title::Said(title)], page)?;
+    push_rows(alloc, frame, rows, page)?;
+    push_tag(Tag::TableEnd, page)
 }
 
 /// Adds rows.
-#[tactic(auto, unfolding(crate::specs::Findings::rows))]
-fn push_rows(alloc: Global, rows: &[FindingRow<'_>], page: &mut String) -> Result<(), AllocError>
-    ensures { OnOk result (string_bytes page.new ≡ string_bytes page.old ++ spec.rows rows.now) }
+#[tactic(auto, unfolding(page_html::specs::Tables::rows_html))]
+fn push_rows(
+    alloc: Global,
+    frame: &Frame,
+    rows: &[FindingRow<'_>],
+    page: &mut String,
+) -> Result<(), AllocError>
+    requires { length frame.now.columns.now ≡ 4 }
+    ensures { OnOk result (string_bytes page.new ≡ string_bytes page.old ++ rows_html (frame_of frame.now) (map spec.cells rows.now)) }
 {
     for row in rows {
-        push_row(alloc, row, page)?;
+        push_finding(alloc, frame, row, page)?;
     }
     Ok(())
 }
 
 /// Adds a row.
-fn push_row(alloc: Global, row: &FindingRow<'_>, page: &mut String) -> Result<(), AllocError>
-    ensures { OnOk result (string_bytes page.new ≡ string_bytes page.old ++ spec.row row.now) }
+fn push_finding(
+    alloc: Global,
+    frame: &Frame,
+    row: &FindingRow<'_>,
+    page: &mut String,
+) -> Result<(), AllocError>
+    requires { length frame.now.columns.now ≡ 4 }
+    ensures { OnOk result (string_bytes page.new ≡ string_bytes page.old ++ row_html (frame_of frame.now) (spec.cells row.now)) }
 {
-    push_level_head(&row.finding, page)?;
-    push_where(row, page)?;
-    push_what(alloc, row, page)?;
-    push_part_cell(alloc, row.count, page)?;
-    push_row_end(page)?;
+    let what = what_parts(alloc, row)?;
+    push_row(
+        alloc,
+        frame,
+        &four_cells(
+            &[level_part(row.finding.level())],
+            &[
+                Part::System(row.finding.fs, row.system),
+                Part::Words(" "),
+                Part::LineLink(row.finding.fs, row.finding.line),
+            ],
+            what.as_slice(),
+            &[Part::PartOf(row.count, SPACE)],
+        ),
+        page,
+    )?;
     Ok(())
 }
 
-/// Begins the row with its level.
-fn push_level_head(finding: &Finding<'_>, page: &mut String) -> Result<(), AllocError>
-    ensures { OnOk result (string_bytes page.new ≡ string_bytes page.old ++ spec.level_head finding.now) }
+/// Gathers why a line stands out, and the line as written.
+fn what_parts<'a>(alloc: Global, row: &FindingRow<'a>) -> Result<Vec<Part<'a>>, AllocError>
+    ensures { IfOk result (λ parts. map item_of parts.items ≡ spec.what row.now) }
 {
-    let level = finding.level();
-    page.push_str("<tr><th scope=\"row\">")?;
-    push_level_mark(level, page)?;
-    page.push_str("</th>")?;
-    Ok(())
-}
-
-/// Adds where the line stands.
-fn push_where(row: &FindingRow<'_>, page: &mut String) -> Result<(), AllocError>
-    ensures { OnOk result (string_bytes page.new ≡ string_bytes page.old ++ spec.where_cell row.now) }
-{
-    page.push_str("<td>")?;
-    push_system_link(row.finding.fs, row.system, page)?;
-    page.push_str(" ")?;
-    push_line_link(row.finding.fs, row.finding.line, page)?;
-    page.push_str("</td>")?;
-    Ok(())
-}
-
-/// Adds why it stands out, and the line as written.
-fn push_what(alloc: Global, row: &FindingRow<'_>, page: &mut String) -> Result<(), AllocError>
-    ensures { OnOk result (string_bytes page.new ≡ string_bytes page.old ++ spec.what_cell row.now) }
-{
-    page.push_str("<td>")?;
-    push_finding_words(alloc, &row.finding, page)?;
-    page.push_str("<br><code>")?;
-    push_escaped_line(row.text, page)?;
-    page.push_str("</code></td>")?;
-    Ok(())
+    let mut parts = finding_parts(alloc, &row.finding)?;
+    parts.push(Part::Break)?;
+    parts.push(Part::Line(row.text))?;
+    Ok(parts)
 }

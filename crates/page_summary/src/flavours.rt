@@ -1,18 +1,30 @@
 //! The security flavours of the lines that grant something.
 
-ghost use Rattle.std.specs.Prelude.{◌≡◌, ◌++◌, OnOk};
+ghost use Rattle.std.specs.Prelude.{◌≡◌, ◌++◌, OnOk, map};
 ghost use Rattle.std.specs.String.{string_bytes};
+ghost use Rattle.page_html.specs.Tables.{row_html, rows_html};
 ghost use Rattle.page_summary.specs.FlavoursTable as spec;
 
-use crate::tables::{Table, push_row_end, push_table_end, push_table_start};
 use desk_exports::Flavour;
-use page_findings::push_flavour_names;
-use page_html::{push_count_cell, push_flavours};
-use page_lists::{Mention, push_some};
+use page_html::{Column, Frame, Part, Tag, Title, push_row, push_table_start, push_tag};
+use page_lists::{Mention, five_cells, some_parts};
 use std::alloc::{AllocError, Global};
 
 /// How many file systems a cell names.
 const MOST_SYSTEMS: usize = 12;
+
+/// The table.
+const FLAVOURS: Frame = Frame {
+    class: "a",
+    is_titled: true,
+    columns: &[
+        Column::Name("Flavours"),
+        Column::Plain("In words"),
+        Column::Count("Lines"),
+        Column::Count("without -ro"),
+        Column::Plain("File systems"),
+    ],
+};
 
 /// The lines with these flavours that grant something: how many there are, how many of them are not read-only, and the file systems that
 /// have them.
@@ -32,53 +44,43 @@ pub fn push_flavours_table(
 ) -> Result<(), AllocError>
     ensures { OnOk result (string_bytes page.new ≡ string_bytes page.old ++ spec.flavours_table rows.now) }
 {
-    push_table_start(alloc, Table::Flavours, page)?;
+    push_table_start(
+        alloc,
+        &FLAVOURS,
+        &[Title::Said("Security flavours of the lines that grant")],
+        page,
+    )?;
     push_rows(alloc, rows, page)?;
-    push_table_end(page)?;
-    Ok(())
+    push_tag(Tag::TableEnd, page)
 }
 
 /// Adds rows.
-#[tactic(auto, unfolding(crate::specs::FlavoursTable::rows))]
+#[tactic(auto, unfolding(page_html::specs::Tables::rows_html))]
 fn push_rows(alloc: Global, rows: &[FlavoursRow<'_>], page: &mut String) -> Result<(), AllocError>
-    ensures { OnOk result (string_bytes page.new ≡ string_bytes page.old ++ spec.rows rows.now) }
+    ensures { OnOk result (string_bytes page.new ≡ string_bytes page.old ++ rows_html spec.flavours_frame (map spec.cells rows.now)) }
 {
     for row in rows {
-        push_row(alloc, row, page)?;
+        push_flavours(alloc, row, page)?;
     }
     Ok(())
 }
 
 /// Adds a row.
-fn push_row(alloc: Global, row: &FlavoursRow<'_>, page: &mut String) -> Result<(), AllocError>
-    ensures { OnOk result (string_bytes page.new ≡ string_bytes page.old ++ spec.row row.now) }
+fn push_flavours(alloc: Global, row: &FlavoursRow<'_>, page: &mut String) -> Result<(), AllocError>
+    ensures { OnOk result (string_bytes page.new ≡ string_bytes page.old ++ row_html spec.flavours_frame (spec.cells row.now)) }
 {
-    push_names(alloc, row.flavours, page)?;
-    push_count_cell(alloc, row.lines, page)?;
-    push_count_cell(alloc, row.writable, page)?;
-    push_systems(alloc, row.systems, page)?;
-    push_row_end(page)?;
-    Ok(())
-}
-
-/// Begins a row with the flavours, as lines write them and in words.
-fn push_names(alloc: Global, flavours: &[Flavour], page: &mut String) -> Result<(), AllocError>
-    ensures { OnOk result (string_bytes page.new ≡ string_bytes page.old ++ spec.names flavours.now) }
-{
-    page.push_str("<tr><th scope=\"row\"><code>")?;
-    push_flavour_names(alloc, flavours, page)?;
-    page.push_str("</code></th><td>")?;
-    push_flavours(flavours, page)?;
-    page.push_str("</td>")?;
-    Ok(())
-}
-
-/// Adds a cell with the file systems.
-fn push_systems(alloc: Global, systems: &[Mention<'_>], page: &mut String) -> Result<(), AllocError>
-    ensures { OnOk result (string_bytes page.new ≡ string_bytes page.old ++ spec.systems_cell systems.now) }
-{
-    page.push_str("<td>")?;
-    push_some(alloc, systems, MOST_SYSTEMS, page)?;
-    page.push_str("</td>")?;
+    let systems = some_parts(alloc, row.systems, MOST_SYSTEMS)?;
+    push_row(
+        alloc,
+        &FLAVOURS,
+        &five_cells(
+            &[Part::FlavourNames(row.flavours)],
+            &[Part::Flavours(row.flavours)],
+            &[Part::Number(row.lines)],
+            &[Part::Number(row.writable)],
+            systems.as_slice(),
+        ),
+        page,
+    )?;
     Ok(())
 }

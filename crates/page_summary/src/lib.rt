@@ -9,7 +9,6 @@
 //! ```
 #![tactic(auto)]
 
-mod addresses;
 pub mod amounts;
 pub mod figures;
 mod files;
@@ -21,12 +20,12 @@ pub mod header;
 pub mod key_figures;
 pub mod laws;
 pub mod overview;
+pub mod proposals;
 mod reach;
 pub mod sections;
 pub mod site_finding;
 pub mod state;
 pub mod system_rows;
-mod tables;
 
 pub use amounts::revisions_and_files;
 pub use figures::{Figures, push_figures};
@@ -38,6 +37,7 @@ pub use header::{Header, push_header};
 pub use key_figures::push_figures_of;
 pub use laws::named_lines_decide;
 pub use overview::{Reach, SystemRow, push_overview};
+pub use proposals::{ProposalRow, push_standing_proposals};
 pub use sections::{Section, push_footer, push_section_end, push_section_start};
 pub use site_finding::{SiteFinding, site_findings};
 pub use state::state_digest;

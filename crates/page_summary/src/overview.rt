@@ -1,18 +1,20 @@
 //! The file systems of a site, with a row for each.
 
-ghost use Rattle.std.specs.Prelude.{◌≡◌, ◌++◌, OnOk};
+ghost use Rattle.std.specs.Prelude.{◌≡◌, ◌++◌, OnOk, length, map};
 ghost use Rattle.std.specs.Option.{option_copied};
 ghost use Rattle.std.specs.String.{string_bytes};
+ghost use Rattle.page_html.specs.Parts.{item_of, items_of};
 ghost use Rattle.page_summary.specs.Overview as spec;
 
-use crate::addresses::push_part_cell;
-use crate::tables::{Table, push_row_end, push_table_end, push_table_start};
+use crate::findings::SPACE;
 use desk_core::Head;
 use desk_tables::FsId;
 use desk_text::Text;
 use page_data::Class;
-use page_findings::push_badge;
-use page_html::{push_code, push_code_list, push_number, push_system_link, push_zero};
+use page_findings::badge_part;
+use page_html::{
+    Column, Frame, Part, Tag, Title, push_cells, push_fixed, push_table_start, push_tag,
+};
 use std::alloc::{AllocError, Global};
 
 /// The key of the maps.
@@ -28,6 +30,34 @@ const LEGEND: &str = r##"<ul class="legend">
 </ul>
 <p class="key">A cell shows what all its addresses may, and in its middle the most that some may. <a href="#read">More on the maps</a></p>
 "##;
+
+/// The table.
+const OVERVIEW: Frame = Frame {
+    class: "o",
+    is_titled: false,
+    columns: &[
+        Column::Name("File system"),
+        Column::Plain("At the most"),
+        Column::Plain("all of IPv4"),
+        Column::Plain("10.0.0.0/8"),
+        Column::Plain("172.16.0.0/12"),
+        Column::Plain("192.168.0.0/16"),
+        Column::Count("Addresses"),
+        Column::Plain("Kept by"),
+        Column::Plain("In force"),
+        Column::Plain("Stands out"),
+    ],
+};
+
+/// Its columns before the maps, and those behind them.
+const BEFORE: &[Column] = &[Column::Name("File system"), Column::Plain("At the most")];
+
+const BEHIND: &[Column] = &[
+    Column::Count("Addresses"),
+    Column::Plain("Kept by"),
+    Column::Plain("In force"),
+    Column::Plain("Stands out"),
+];
 
 /// How far file systems reach: the most that an address may, the cells of the maps, and how many addresses may something.
 #[derive(Clone, Copy)]
@@ -62,30 +92,27 @@ pub fn push_overview(
 ) -> Result<(), AllocError>
     ensures { OnOk result (string_bytes page.new ≡ string_bytes page.old ++ spec.overview together.now rows.now) }
 {
-    push_legend(page)?;
-    push_table_start(alloc, Table::Overview, page)?;
+    push_fixed(LEGEND, page)?;
+    push_table_start(
+        alloc,
+        &OVERVIEW,
+        &[Title::Said(
+            "The file systems, and where the clients are that may mount some directory of them",
+        )],
+        page,
+    )?;
     push_any(alloc, together, page)?;
     push_rows(alloc, rows, page)?;
-    push_table_end(page)?;
-    Ok(())
-}
-
-/// Adds the key of the maps.
-#[tactic(auto, unfolding(crate::specs::Overview::legend))]
-fn push_legend(page: &mut String) -> Result<(), AllocError>
-    ensures { OnOk result (string_bytes page.new ≡ string_bytes page.old ++ spec.legend) }
-{
-    page.push_str(LEGEND)
+    push_tag(Tag::TableEnd, page)
 }
 
 /// Adds the row for all file systems together.
 fn push_any(alloc: Global, together: &Reach<'_>, page: &mut String) -> Result<(), AllocError>
     ensures { OnOk result (string_bytes page.new ≡ string_bytes page.old ++ spec.any_row together.now) }
 {
-    page.push_str("<tr><th scope=\"row\"><b>any of them</b></th>")?;
-    push_reach(alloc, together, page)?;
-    page.push_str("<td></td><td></td><td></td></tr>\n")?;
-    Ok(())
+    let before: [&[Part<'_>]; 2] = [&[Part::Strong("any of them")], &[badge_part(together.most)]];
+    let behind: [&[Part<'_>]; 4] = [&[Part::PartOf(together.addresses, SPACE)], &[], &[], &[]];
+    push_around(alloc, &before, together.maps, &behind, page)
 }
 
 /// Adds the rows for each.
@@ -94,183 +121,101 @@ fn push_rows(alloc: Global, rows: &[SystemRow<'_>], page: &mut String) -> Result
     ensures { OnOk result (string_bytes page.new ≡ string_bytes page.old ++ spec.rows rows.now) }
 {
     for row in rows {
-        push_row(alloc, row, page)?;
+        push_system(alloc, row, page)?;
     }
     Ok(())
 }
 
-/// Adds a row.
-fn push_row(alloc: Global, row: &SystemRow<'_>, page: &mut String) -> Result<(), AllocError>
+/// Adds the row of a file system.
+fn push_system(alloc: Global, row: &SystemRow<'_>, page: &mut String) -> Result<(), AllocError>
     ensures { OnOk result (string_bytes page.new ≡ string_bytes page.old ++ spec.row row.now) }
 {
-    push_system(alloc, row, page)?;
-    push_keepers(row.custodians, row.guarded, page)?;
-    push_newest(row.head, row.has_proposal, page)?;
-    push_standing_out(alloc, row.first, row.check, page)?;
-    push_row_end(page)?;
-    Ok(())
+    let in_force = in_force(row);
+    let standing_out = standing_out(row);
+    let before: [&[Part<'_>]; 2] = [
+        &[Part::System(row.fs, row.name)],
+        &[badge_part(row.reach.most)],
+    ];
+    let behind: [&[Part<'_>]; 4] = [
+        &[Part::PartOf(row.reach.addresses, SPACE)],
+        &[
+            Part::Codes(row.custodians),
+            part_if(row.guarded, Part::Words(" ")),
+            part_if(row.guarded, Part::Strong("guarded")),
+        ],
+        &in_force,
+        &standing_out,
+    ];
+    push_around(alloc, &before, row.reach.maps, &behind, page)
 }
 
-/// Begins the row with the name, and how far the file system reaches.
-fn push_system(alloc: Global, row: &SystemRow<'_>, page: &mut String) -> Result<(), AllocError>
-    ensures { OnOk result (string_bytes page.new ≡ string_bytes page.old ++ spec.system_cells row.now) }
-{
-    page.push_str("<tr><th scope=\"row\">")?;
-    push_system_link(row.fs, row.name, page)?;
-    page.push_str("</th>")?;
-    push_reach(alloc, &row.reach, page)?;
-    Ok(())
-}
-
-/// Adds the cells of how far file systems reach.
-fn push_reach(alloc: Global, reach: &Reach<'_>, page: &mut String) -> Result<(), AllocError>
-    ensures { OnOk result (string_bytes page.new ≡ string_bytes page.old ++ spec.reach_cells reach.now) }
-{
-    push_badge_cell(reach.most, page)?;
-    page.push_str(reach.maps)?;
-    push_part_cell(alloc, reach.addresses, page)?;
-    Ok(())
-}
-
-/// Adds a cell with a class.
-fn push_badge_cell(class: Class, page: &mut String) -> Result<(), AllocError>
-    ensures { OnOk result (string_bytes page.new ≡ string_bytes page.old ++ spec.badge_cell class) }
-{
-    page.push_str("<td>")?;
-    push_badge(class, page)?;
-    page.push_str("</td>")?;
-    Ok(())
-}
-
-/// Adds a cell with who keeps the file system.
-fn push_keepers(custodians: &[Text], guarded: bool, page: &mut String) -> Result<(), AllocError>
-    ensures { OnOk result (string_bytes page.new ≡ string_bytes page.old ++ spec.keepers_cell custodians.now guarded) }
-{
-    page.push_str("<td>")?;
-    push_code_list(custodians, page)?;
-    page.push_str(guarded_mark(guarded))?;
-    page.push_str("</td>")?;
-    Ok(())
-}
-
-/// Returns that a file system is guarded, if it is.
-fn guarded_mark(guarded: bool) -> &'static str
-    ensures { result.now ≡ spec.guarded_mark guarded }
-{
-    if guarded { " <b>guarded</b>" } else { "" }
-}
-
-/// Adds a cell with the newest revision, and whether a proposal waits.
-fn push_newest(head: Option<&Head>, has_proposal: bool, page: &mut String) -> Result<(), AllocError>
-    ensures { OnOk result (string_bytes page.new ≡ string_bytes page.old ++ spec.newest_cell (option_copied head.entry) has_proposal) }
-{
-    page.push_str("<td>")?;
-    push_revision(head, page)?;
-    page.push_str(proposal_mark(has_proposal))?;
-    page.push_str("</td>")?;
-    Ok(())
-}
-
-/// Returns that a proposal waits, if one does.
-fn proposal_mark(has_proposal: bool) -> &'static str
-    ensures { result.now ≡ spec.proposal_mark has_proposal }
-{
-    if has_proposal {
-        " <b>proposal waits</b>"
-    } else {
-        ""
-    }
-}
-
-/// Adds the newest revision, and by whom it is.
-fn push_revision(head: Option<&Head>, page: &mut String) -> Result<(), AllocError>
-    ensures { OnOk result (string_bytes page.new ≡ string_bytes page.old ++ spec.revision (option_copied head.entry)) }
-{
-    match head {
-        None => page.push_str("none"),
-        Some(head) => push_signed(head, page),
-    }
-}
-
-/// Adds a revision, and by whom it is.
-fn push_signed(head: &Head, page: &mut String) -> Result<(), AllocError>
-    ensures { OnOk result (string_bytes page.new ≡ string_bytes page.old ++ spec.signed head.now) }
-{
-    push_revision_number(head.rev, page)?;
-    push_code(head.author.as_str(), page)?;
-    Ok(())
-}
-
-/// Adds the number of a revision.
-fn push_revision_number(number: u32, page: &mut String) -> Result<(), AllocError>
-    ensures { OnOk result (string_bytes page.new ≡ string_bytes page.old ++ spec.revision_number number) }
-{
-    write!(page, "rev {number} by ")
-}
-
-/// Adds a cell with how many lines stand out.
-fn push_standing_out(
+/// Adds a row: the cells before those of the maps, these, which come onto the page as they are, and the cells behind them.
+fn push_around(
     alloc: Global,
-    first: u64,
-    check: u64,
+    before: &[&[Part<'_>]],
+    maps: &str,
+    behind: &[&[Part<'_>]],
     page: &mut String,
 ) -> Result<(), AllocError>
-    ensures { OnOk result (string_bytes page.new ≡ string_bytes page.old ++ spec.standing_out_cell first check) }
+    requires before { length before.now ≡ 2 }
+    requires behind { length behind.now ≡ 4 }
+    ensures { OnOk result (string_bytes page.new
+        ≡ string_bytes page.old ++ spec.row_around (map (λ cell. items_of cell.now) before.now) maps.now (map (λ cell. items_of cell.now) behind.now)) }
 {
-    page.push_str("<td>")?;
-    push_levels(alloc, first, check, page)?;
-    page.push_str("</td>")?;
+    page.push_str("<tr>")?;
+    push_cells(alloc, BEFORE, before, page)?;
+    page.push_str(maps)?;
+    push_cells(alloc, BEHIND, behind, page)?;
+    page.push_str("</tr>\n")?;
     Ok(())
 }
 
-/// Adds how many lines are to be looked at first, and behind it how many are to be checked.
-fn push_levels(alloc: Global, first: u64, check: u64, page: &mut String) -> Result<(), AllocError>
-    ensures { OnOk result (string_bytes page.new ≡ string_bytes page.old ++ spec.levels first check) }
+/// Returns a part, if something is so.
+fn part_if<'a>(is_so: bool, part: Part<'a>) -> Part<'a>
+    ensures { item_of result ≡ spec.item_if is_so (item_of part.entry) }
 {
-    if first == 0 {
-        push_check_alone(alloc, check, page)
-    } else if check == 0 {
-        push_first(alloc, first, page)
-    } else {
-        push_both(alloc, first, check, page)
+    if is_so { part } else { Part::Nothing }
+}
+
+/// Returns the newest revision, by whom it is, and whether a proposal waits.
+fn in_force<'a>(row: &SystemRow<'a>) -> [Part<'a>; 6]
+    ensures { map item_of result ≡ spec.in_force (option_copied row.now.head) row.now.has_proposal }
+{
+    let space = part_if(row.has_proposal, Part::Words(" "));
+    let waits = part_if(row.has_proposal, Part::Strong("proposal waits"));
+    match row.head {
+        None => [
+            Part::Words("none"),
+            Part::Nothing,
+            Part::Nothing,
+            Part::Nothing,
+            space,
+            waits,
+        ],
+        Some(head) => [
+            Part::Words("rev "),
+            Part::Digits(head.rev),
+            Part::Words(" by "),
+            Part::Code(head.author.as_str()),
+            space,
+            waits,
+        ],
     }
 }
 
-/// Adds how many lines are to be looked at first and to be checked.
-fn push_both(alloc: Global, first: u64, check: u64, page: &mut String) -> Result<(), AllocError>
-    ensures { OnOk result (string_bytes page.new ≡ string_bytes page.old ++ spec.both_levels first check) }
+/// Returns how many lines are to be looked at first, and behind it how many are to be checked.
+fn standing_out<'a>(row: &SystemRow<'a>) -> [Part<'a>; 3]
+    ensures { map item_of result ≡ spec.standing_out row.now.first row.now.check }
 {
-    push_first(alloc, first, page)?;
-    page.push_str(", ")?;
-    push_check(alloc, check, page)?;
-    Ok(())
-}
-
-/// Adds how many lines are to be checked, where none is to be looked at first.
-fn push_check_alone(alloc: Global, check: u64, page: &mut String) -> Result<(), AllocError>
-    ensures { OnOk result (string_bytes page.new ≡ string_bytes page.old ++ spec.check_alone check) }
-{
-    if check == 0 {
-        push_zero("nothing", page)
+    let first = Part::Plural(row.first, "look first", "look first");
+    let check = Part::Plural(row.check, "check", "check");
+    if row.first == 0 && row.check == 0 {
+        [Part::Zero("nothing"), Part::Nothing, Part::Nothing]
+    } else if row.first == 0 {
+        [check, Part::Nothing, Part::Nothing]
+    } else if row.check == 0 {
+        [first, Part::Nothing, Part::Nothing]
     } else {
-        push_check(alloc, check, page)
+        [first, Part::Words(", "), check]
     }
-}
-
-/// Adds how many lines are to be looked at first.
-fn push_first(alloc: Global, count: u64, page: &mut String) -> Result<(), AllocError>
-    ensures { OnOk result (string_bytes page.new ≡ string_bytes page.old ++ spec.first_level count) }
-{
-    push_number(alloc, count, page)?;
-    page.push_str(" look first")?;
-    Ok(())
-}
-
-/// Adds how many lines are to be checked.
-fn push_check(alloc: Global, count: u64, page: &mut String) -> Result<(), AllocError>
-    ensures { OnOk result (string_bytes page.new ≡ string_bytes page.old ++ spec.second_level count) }
-{
-    push_number(alloc, count, page)?;
-    page.push_str(" check")?;
-    Ok(())
 }

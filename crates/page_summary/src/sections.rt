@@ -4,6 +4,7 @@ ghost use Rattle.std.specs.Prelude.{◌≡◌, ◌++◌, OnOk};
 ghost use Rattle.std.specs.String.{string_bytes};
 ghost use Rattle.page_summary.specs.Sections as spec;
 
+use page_html::{Tag, push_fixed, push_tag};
 use std::alloc::AllocError;
 
 /// A section of the page, but for the summary.
@@ -21,7 +22,7 @@ pub enum Section {
 pub fn push_section_start(section: Section, page: &mut String) -> Result<(), AllocError>
     ensures { OnOk result (string_bytes page.new ≡ string_bytes page.old ++ spec.section_start section) }
 {
-    page.push_str(start_of(section))
+    push_fixed(start_of(section), page)
 }
 
 /// Returns how a section begins.
@@ -43,12 +44,12 @@ fn start_of(section: Section) -> &'static str
 pub fn push_section_end(page: &mut String) -> Result<(), AllocError>
     ensures { OnOk result (string_bytes page.new ≡ string_bytes page.old ++ spec.section_end) }
 {
-    page.push_str("</section>\n")
+    push_tag(Tag::SectionEnd, page)
 }
 
 /// Ends the page.
 pub fn push_footer(page: &mut String) -> Result<(), AllocError>
     ensures { OnOk result (string_bytes page.new ≡ string_bytes page.old ++ spec.footer) }
 {
-    page.push_str("</main>\n</body>\n</html>\n")
+    push_tag(Tag::PageEnd, page)
 }

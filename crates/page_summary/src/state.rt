@@ -98,29 +98,17 @@ fn push_profile(head: &Head, text: &mut String) -> Result<(), AllocError>
     if SiteFile::is_name(head.file.as_str()) {
         Ok(())
     } else {
-        push_profile_number(head.profile.number(), text)
+        let number = head.profile.number();
+        write!(text, " profile {number}")
     }
-}
-
-/// Adds the number of a profile.
-fn push_profile_number(number: u32, text: &mut String) -> Result<(), AllocError>
-    ensures { OnOk result (string_bytes text.new ≡ string_bytes text.old ++ spec.profile_number_words number) }
-{
-    write!(text, " profile {number}")
 }
 
 /// Adds the digest of a file's text, and ends the line.
 fn push_line_end(alloc: Global, body: &str, text: &mut String) -> Result<(), AllocError>
     ensures { OnOk result (string_bytes text.new ≡ string_bytes text.old ++ spec.line_end body.now) }
 {
-    let digest = text_digest(alloc, body)?;
-    push_ended(digest.as_str(), text)
-}
-
-/// Adds a digest, and ends the line.
-fn push_ended(digest: &str, text: &mut String) -> Result<(), AllocError>
-    ensures { OnOk result (string_bytes text.new ≡ string_bytes text.old ++ spec.ended digest.now) }
-{
+    let made = text_digest(alloc, body)?;
+    let digest = made.as_str();
     write!(text, " {digest}\n")
 }
 

@@ -14,10 +14,10 @@ from reference.report.data import (
 )  # fmt: skip
 from reference.report.maps import small_map
 from reference.report.pieces import cut, folded, folded_if_long, level_mark, line_link, ranges_cell, system_link, table, zero
-from reference.report.systems import file_of, finding_words, network_of, system_section, widest_first
+from reference.report.systems import file_of, finding_words, network_of, system_section, widening, widest_first
 from reference.report.text import (
-    CLASS_WORDS, and_more, class_badge, code, codes, count_words, escaped, escaped_attribute, escaped_line, flavour_words,
-    network_text, number, part_words, plural, shell_word,
+    and_more, class_badge, class_parts, code, codes, escaped, escaped_attribute, escaped_line, flavour_words, network_text, number,
+    part_words, plural, shell_word,
 )  # fmt: skip
 from reference.sarif import RULES
 from reference.warnings import NAMES, site_warnings
@@ -117,7 +117,7 @@ def key_figures(report):
         ("Lines", len(report.lines), f"{plural(directories, 'directory', 'directories')} written"),
         ("Lines for everybody", len(everybody), f"{number(writable)} without -ro"),
         ("Lines that keep root", len(root), f"{number(not_named)} for networks or everybody"),
-        ("Lines without effect", len(report.lines) - len(report.granting()), "they grant nothing"),
+        ("Lines without effect", len(report.lines) - len(report.granting()), "they grant nothing; not counted in the two before"),
         ("Warnings", len(report.warnings), "about words"),
         ("Proposals", len(report.desk.proposals), "not in force"),
     ]
@@ -132,8 +132,21 @@ def summary(report):
     counted = f"{plural(levels.count(FIRST), 'line')} to look at first, {number(levels.count(CHECK))} to check."
     rules = 'These are fixed rules over the lines (<a href="#read">below</a>); what the site intends they do not know.'
     made = f'<section id="summary">\n<h2>Summary</h2>\n<dl class="big">\n{figures}</dl>\n'
-    made += f"<h3>What stands out</h3>\n<p>{counted} {rules}</p>\n"
+    made += f"<h3>What stands out</h3>\n{proposals_list(report)}<p>{counted} {rules}</p>\n"
     return made + findings_tables(report) + flavours_table(report) + "</section>\n"
+
+
+def proposals_list(report):
+    """The proposals by which clients may do more, in the order of the file systems."""
+    counted = [(system, widening(report.desk, system)) for system in report.systems]
+    items = "".join(proposal_item(report.desk, system, count) for system, count in counted if count)
+    return f'<ul class="mine">{items}</ul>\n' if items else ""
+
+
+def proposal_item(desk, system, count):
+    author, _ = desk.proposals[file_of(system)]
+    words = f"{code(author)} proposes that clients may do more: {plural(count, 'change')}"
+    return f"<li>{level_mark(FIRST)} {system_link(system)}: {words}</li>\n"
 
 
 def findings_tables(report):
@@ -235,9 +248,9 @@ def network_row(report, first, prefix):
         found = counts(system.classes, *network_ends(first, prefix))
         values = [value for value in (3, 2, 1) if found[value]]
         if values and found[values[0]] == whole:
-            alike.append(f"{system_link(system)} {CLASS_WORDS[values[0]]}")
+            alike.append(f"{system_link(system)} {class_badge(values[0])}")
         elif values:
-            parts.append(f"{system_link(system)} {count_words(found)}")
+            parts.append(f"{system_link(system)} {class_parts(found)}")
     return [network_text(first, prefix), number(whole), systems_cell(alike, "; "), systems_cell(parts, "<br>")]
 
 

@@ -5,13 +5,13 @@ from reference.idle import is_for_all
 from reference.lines import logical_lines, physical_lines, words_of
 from reference.readings import Fault, read_site
 from reference.report.data import (
-    GRANTS_MORE, LEFT_OUT, PRIVATE, SPACE, FileSystem, changed_places, classes_of, counts, network_ends, size_of,
+    GRANTS_MORE, LEFT_OUT, PRIVATE, SPACE, FileSystem, changed_places, class_of, classes_of, counts, network_ends, size_of,
 )  # fmt: skip
 from reference.report.maps import figures
 from reference.report.pieces import box, cut, folded, folded_if_long, level_mark, line_link, ranges_cell, table, zero
 from reference.report.text import (
-    and_more, class_badge, code, codes, escaped, escaped_line, network_text, number, part_words, percent, plural, range_text,
-    terms_badge, terms_words,
+    and_more, class_badge, class_parts, code, codes, escaped, escaped_line, network_text, number, part_words, percent, plural,
+    range_text, terms_badge, terms_words,
 )  # fmt: skip
 from reference.why import named_line
 
@@ -21,6 +21,11 @@ OPEN_LINES, MOST_DRAWN, MOST_GROUPS = 40, 12, 100
 # denial apart, networks in the table of shares, and lines whose denials mountd(8) does not keep.
 MOST_NAMES, MOST_CAPTION, MOST_DECIDING, MOST_REASONS, MOST_SHARES, MOST_OPENINGS = 8, 3, 6, 5, 12, 6
 OTHERS = "other directories"
+# What does not matter to a client.
+SILENT = (
+    "of lines or reasons alone: the same clients may mount the same on the same terms, and only the line that grants it, or the reason"
+    " of a denial, is another"
+)
 
 
 def file_of(system):
@@ -234,6 +239,26 @@ def share_row(system, name, ranges):
 # ---- a proposal
 
 
+def foreseen(desk, system):
+    """The file system with what is proposed for it, or none and the fault of the site with that."""
+    texts = {**desk.texts, file_of(system): desk.proposals[file_of(system)][1]}
+    try:
+        site = read_site(texts)
+    except Fault as fault:
+        return None, str(fault)
+    found = ((mount, contradiction(site, mount)) for mount in site.mounts)
+    fault = next((fault_text(mount, fault) for mount, fault in found if fault), "")
+    return (None, fault) if fault else (FileSystem(site, system.number), "")
+
+
+def widening(desk, system):
+    """By how many changes of a proposal clients may do more: those at which the class is greater than now."""
+    after = foreseen(desk, system)[0] if file_of(system) in desk.proposals else None
+    places = changed_places(system, after) if after else []
+    found = [verdicts for place in places for _, _, verdicts in changes(system.site, after.site, place)]
+    return sum(class_of(effect(then)) > class_of(effect(now)) for now, then in found)
+
+
 def proposal_block(desk, system):
     """The text that waits, with the lines of it that are not in force, and what it would change for whom."""
     if file_of(system) not in desk.proposals:
@@ -244,23 +269,13 @@ def proposal_block(desk, system):
     made = '<section class="wait">\n<h4>A proposal waits</h4>\n'
     made += f"<p>{code(author)} proposes this text as revision {revision}. It is not in force{approval}.</p>\n"
     made += proposed_text(system, desk.texts.get(file_of(system), ""), text)
-    return made + outcome_block(system, {**desk.texts, file_of(system): text}) + "</section>\n"
+    return made + outcome_block(desk, system) + "</section>\n"
 
 
-def outcome_block(system, texts):
-    """What a proposal would change, given the texts of the site with it; or the fault of these, to which a proposal comes if another
-    file changes while it waits."""
-    try:
-        site = read_site(texts)
-    except Fault as fault:
-        return refused(str(fault))
-    found = ((mount, contradiction(site, mount)) for mount in site.mounts)
-    fault = next((fault_text(mount, fault) for mount, fault in found if fault), "")
-    return refused(fault) if fault else changes_block(system, FileSystem(site, system.number))
-
-
-def refused(fault):
-    return f"<p>It cannot be put in force now: {code(fault)}.</p>\n"
+def outcome_block(desk, system):
+    """What a proposal would change; or the fault of the site with it, to which a proposal comes if another file changes while it waits."""
+    after, fault = foreseen(desk, system)
+    return changes_block(system, after) if after else f"<p>It cannot be put in force now: {code(fault)}.</p>\n"
 
 
 def proposed_text(system, old, text):
@@ -286,7 +301,7 @@ def changes_block(before, after):
     if rows:
         made = table("What it would change", ["Directory", "Clients", "Addresses#", "Now", "Then"], rows, "i")
         made = folded_if_long(made, len(rows), plural(len(rows), "change"))
-    return made + (f"<p>{plural(silent, 'change')} of lines or reasons alone.</p>\n" if silent else "")
+    return made + (f"<p>{plural(silent, 'change')} {SILENT}.</p>\n" if silent else "")
 
 
 def change_row(are_others, place, first, last, verdicts):
@@ -315,9 +330,8 @@ def facts(desk, system):
     name = file_of(system)
     guarded = "yes: a change of its exports needs two of them" if name in desk.guarded() else "no: each of them may change it alone"
     found = counts(system.classes, 0, SPACE - 1)
-    some = ", ".join(f"{class_badge(value)}&nbsp;{part_words(found[value])}" for value in (3, 2, 1) if found[value]) or "nobody"
     rows = [("In force", revision_words(desk, name)), ("Custodians", codes(desk.custodians(name))), ("Guarded", guarded)]
-    rows.append(("May mount some of it", some))
+    rows.append(("May mount some of it", class_parts(found)))
     made = "".join(f"<div><dt>{term}</dt><dd>{words}</dd></div>\n" for term, words in rows)
     return f'<dl class="facts">\n{made}</dl>\n'
 

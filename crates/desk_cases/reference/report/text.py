@@ -71,7 +71,7 @@ def part_words(count, whole=SPACE):
     """How much of a whole: none, all, all but a number, or a number."""
     if count in (0, whole):
         return "none" if count == 0 else "all"
-    return f"all but&nbsp;{number(whole - count)}" if count > whole // 2 else number(count)
+    return f"all&nbsp;but&nbsp;{number(whole - count)}" if count > whole // 2 else number(count)
 
 
 def percent(count, whole):
@@ -136,6 +136,11 @@ def class_badge(value):
 
 def terms_badge(terms):
     return class_badge(class_of(terms))
+
+
+def class_parts(found):
+    """What part of all addresses has each class that there is, the most first, with the badges."""
+    return ", ".join(f"{class_badge(value)}&nbsp;{part_words(found[value])}" for value in (3, 2, 1) if found[value]) or "nobody"
 
 
 def count_words(found):

@@ -1,20 +1,22 @@
-use Rattle.std.proofs.Common.{◌++◌, ◌∙◌, ap}
+use Rattle.std.proofs.Common.{◌+◌, ◌++◌, ◌∙◌, ap, refl}
 use Rattle.std.specs.String.{string_bytes}
 use Rattle.std.proofs.lemmas.Result.{on_ok_weaker}
-use Rattle.page_data.specs.Counts.{granted_of}
-use Rattle.page_filesystem.specs.Shares.{class_cells, granted_cell, size_cell, size_of, space_head}
-use Rattle.page_html.proofs.Gaining.{four_pieces}
+use Rattle.page_html.specs.Items.{Number, Own}
+use Rattle.page_html.specs.Tables.{row_html}
+use Rattle.page_filesystem.specs.Shares.{frame, granted_items}
+use Rattle.page_filesystem.proofs.Cells.{before, part_before}
 use Rattle.page_filesystem.proofs.shares.push_share.Goals as goal
 
 pub returns : goal.returns
 returns c =
-    on_ok_weaker c.push_granted_cell.result
-    (λ ended. four_pieces (string_bytes c.args.page.now) (string_bytes c.push_space.new.page) (string_bytes c.push_size_cell.new.page)
-    (string_bytes c.push_class_cells.new.page) (string_bytes c.push_granted_cell.new.page) (space_head c.args.share.now.space)
-    (size_cell (size_of c.args.share.now.counts)) (class_cells c.args.share.now.counts)
-    (granted_cell (granted_of c.args.share.now.counts) (size_of c.args.share.now.counts)) c.in_ok-push_space.ensures
-    (c.in_ok-push_size_cell.ensures ∙ ap (λ n. (string_bytes c.push_space.new.page) ++ size_cell n) c.size_of.ensures)
-    c.in_ok-push_class_cells.ensures (ended ∙ (ap (λ n. (string_bytes c.push_class_cells.new.page) ++ granted_cell n c.size_of-2.result)
-    c.granted.ensures ∙ ap (λ n. (string_bytes c.push_class_cells.new.page) ++ granted_cell (granted_of c.args.share.now.counts) n)
-    c.size_of-2.ensures)))
-    c.push_granted_cell.ensures
+    let denied = c.args.share.now.counts.denied in
+    let granted = c.granted-granted.ensures in
+    on_ok_weaker c.push_row.result
+    (λ added. added ∙ ap (λ cells. string_bytes c.args.page.now ++ row_html frame cells)
+    (part_before _ _ _ _ c.space_part.ensures
+    (part_before _ _ _ _ (ap (λ n. Own (Number (denied + n))) granted)
+    (part_before _ _ _ _ c.count_part.ensures
+    (part_before _ _ _ _ c.count_part-2.ensures
+    (part_before _ _ _ _ c.count_part-3.ensures
+    (before _ _ _ _ (ap (λ n. granted_items n (denied + n)) granted) refl)))))))
+    c.push_row.ensures

@@ -1,10 +1,14 @@
+use Rattle.std.proofs.Common.{◌++◌, ◌∙◌, ap}
 use Rattle.std.specs.String.{string_bytes}
-use Rattle.page_html.proofs.Gathered.{writes_item}
-use Rattle.page_maps.specs.NetworkTable.{row}
+use Rattle.page_html.proofs.Gathered.{writes_values}
+use Rattle.page_html.specs.Tables.{row_html}
+use Rattle.page_maps.specs.NetworkTable.{cells, frame}
 use Rattle.page_maps.proofs.network_table.push_rows.Goals as goal
 
 pub loop-row-preserved : goal.loop-row-preserved
 loop-row-preserved c =
-    writes_item c.args.rows.now c.loop-row.row-index c.row-item.result (row c.args.policy.now) (string_bytes c.args.page.now) (string_bytes c.loop-row.page)
-    (string_bytes c.push_row.new.page) c.loop-row-test.true c.row-item.is c.loop-row.invariant
-    c.in_ok-push_row.ensures
+    let now = string_bytes c.loop-row.page in
+    let content = c.args.policy.now in
+    writes_values (cells content) c.args.rows.now c.loop-row.row-index c.row-item.result (row_html frame) (string_bytes c.args.page.now) now
+    (string_bytes c.push_network.new.page) c.loop-row-test.true c.loop-row.invariant
+    (c.in_ok-push_network.ensures ∙ ap (λ row. now ++ row_html frame (cells content row)) c.row-item.is)

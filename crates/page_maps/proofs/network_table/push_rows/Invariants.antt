@@ -1,9 +1,10 @@
 -- The rows so far were added.
-use Rattle.std.proofs.Common.{◌≡◌, ◌++◌, take}
+use Rattle.std.proofs.Common.{◌≡◌, ◌++◌, map, take}
 use Rattle.std.specs.List.{flat_map}
 use Rattle.std.specs.String.{string_bytes}
-use Rattle.page_maps.specs.NetworkTable.{row}
+use Rattle.page_html.specs.Tables.{row_html}
+use Rattle.page_maps.specs.NetworkTable.{cells, frame}
 use Rattle.page_maps.proofs.network_table.push_rows.Given as goal
 
 abbrev pub invariant-loop-row : goal.invariant-loop-row
-invariant-loop-row l = string_bytes l.page ≡ string_bytes l.initial.page ++ flat_map (row l.policy) (take l.row-index l.rows)
+invariant-loop-row l = string_bytes l.page ≡ string_bytes l.initial.page ++ flat_map (row_html frame) (map (cells l.policy) (take l.row-index l.rows))

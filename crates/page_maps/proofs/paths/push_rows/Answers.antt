@@ -1,6 +1,6 @@
 use Rattle.std.proofs.Common.{◌≡◌, ◌++◌, ◌∙◌, ap, arith, length}
 use Rattle.std.specs.List.{flat_map, range_with_len}
-use Rattle.std.specs.String.{string_bytes}
+use Rattle.page_html.specs.Images.{image_html}
 use Rattle.std.proofs.lemmas.List.FromFn.{length-map-range_with_len}
 use Rattle.page_maps.specs.Paths.{ground_path, is_whole, row_of, row_path, whole_rows}
 use Rattle.page_maps.proofs.Ranged.{writes_in_range}
@@ -13,7 +13,7 @@ push_row-requires-clause-rows c = ap length c.requires.wholes ∙ length-map-ran
 pub loop-y-preserved : goal.loop-y-preserved
 loop-y-preserved c = record {
   few = (let less = c.loop-y-test.true in omega arith);
-  written = writes_in_range c.loop-y.y (row_path c.args.which.now c.args.wholes.now) (string_bytes c.args.page.now) (string_bytes c.loop-y.page) (string_bytes c.push_row.new.page)
+  written = writes_in_range c.loop-y.y (row_path c.args.which.now c.args.wholes.now) (image_html c.args.image.now) (image_html c.loop-y.image) (image_html c.push_row.new.image)
       c.loop-y.invariant.written c.in_ok-push_row.ensures;
 }
 
@@ -23,5 +23,5 @@ returns c =
     let few = c.loop-y.invariant.few in
     let past = c.loop-y-test.false in
     let all : c.loop-y.y ≡ 16 = omega arith in
-    c.loop-y.invariant.written ∙ ap (λ n. string_bytes c.args.page.now ++ flat_map (row_path c.args.which.now c.args.wholes.now) (range_with_len 0 n)) all
-    ∙ ap (λ wholes. string_bytes c.args.page.now ++ flat_map (row_path c.args.which.now wholes) (range_with_len 0 16)) c.requires.wholes
+    c.loop-y.invariant.written ∙ ap (λ n. image_html c.args.image.now ++ flat_map (row_path c.args.which.now c.args.wholes.now) (range_with_len 0 n)) all
+    ∙ ap (λ wholes. image_html c.args.image.now ++ flat_map (row_path c.args.which.now wholes) (range_with_len 0 16)) c.requires.wholes

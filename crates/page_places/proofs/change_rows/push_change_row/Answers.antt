@@ -1,18 +1,16 @@
+use Rattle.std.proofs.Common.{◌++◌, ◌∙◌, ap, refl}
 use Rattle.std.specs.String.{string_bytes}
 use Rattle.std.proofs.lemmas.Result.{on_ok_weaker}
-use Rattle.desk_impact.specs.Places.{place_of}
-use Rattle.page_places.specs.ChangeRows.{change_clients, change_place, verdict_cell, verdict_end}
-use Rattle.desk_policy.specs.Verdict.{verdict_result}
-use Rattle.desk_text.specs.Address.{number_of}
-use Rattle.page_html.proofs.Gaining.{four_pieces}
+use Rattle.page_html.specs.Items.{Number, Own}
+use Rattle.page_html.specs.Tables.{row_html}
+use Rattle.page_places.specs.ChangeRows.{change_frame}
+use Rattle.page_places.proofs.Gathering.{cell_before, part_before}
 use Rattle.page_places.proofs.change_rows.push_change_row.Goals as goal
 
 pub returns : goal.returns
 returns c =
-    on_ok_weaker c.push_verdict_end.result
-    (four_pieces (string_bytes c.args.page.now) (string_bytes c.push_change_place.new.page) (string_bytes c.push_change_clients.new.page)
-    (string_bytes c.push_verdict_cell.new.page) (string_bytes c.push_verdict_end.new.page) (change_place (place_of c.args.row.now.place))
-    (change_clients (number_of c.args.row.now.first) (number_of c.args.row.now.last)) (verdict_cell (verdict_result c.args.row.now.before))
-    (verdict_end (verdict_result c.args.row.now.after)) c.in_ok-push_change_place.ensures c.in_ok-push_change_clients.ensures
-    c.in_ok-push_verdict_cell.ensures)
-    c.push_verdict_end.ensures
+    on_ok_weaker c.push_row.result
+    (λ added. added ∙ ap (λ cells. string_bytes c.args.page.now ++ row_html change_frame cells)
+    (part_before _ _ _ _ c.place_part.ensures (cell_before _ _ _ _ refl (part_before _ _ _ _ (ap (λ n. Own (Number n)) c.span_size.ensures)
+    (cell_before _ _ _ _ c.verdict_parts-before.ensures (cell_before _ _ _ _ c.verdict_parts-after.ensures refl))))))
+    c.push_row.ensures

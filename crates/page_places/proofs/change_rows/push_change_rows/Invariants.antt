@@ -1,9 +1,11 @@
 -- The rows so far were added.
-use Rattle.std.proofs.Common.{◌≡◌, ◌++◌, take}
+use Rattle.std.proofs.Common.{◌≡◌, ◌++◌, map, take}
 use Rattle.std.specs.List.{flat_map}
 use Rattle.std.specs.String.{string_bytes}
-use Rattle.page_places.specs.ChangeRows.{change_row}
+use Rattle.page_html.specs.Tables.{row_html}
+use Rattle.page_places.specs.ChangeRows.{change_cells, change_frame}
 use Rattle.page_places.proofs.change_rows.push_change_rows.Given as goal
 
 abbrev pub invariant-loop-row : goal.invariant-loop-row
-invariant-loop-row l = string_bytes l.page ≡ string_bytes l.initial.page ++ flat_map change_row (take l.row-index l.rows)
+invariant-loop-row l =
+    string_bytes l.page ≡ string_bytes l.initial.page ++ flat_map (row_html change_frame) (map change_cells (take l.row-index l.rows))

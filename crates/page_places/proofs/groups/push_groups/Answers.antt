@@ -1,8 +1,7 @@
-use Rattle.std.proofs.Common.{◌++◌, ◌∙◌, List, ap, map, subst, sym, ℕ}
+use Rattle.std.proofs.Common.{◌++◌, ◌∙◌, List, ap, subst, sym, ℕ}
 use Rattle.std.specs.String.{string_bytes}
 use Rattle.page_data.specs.Groups.{group_value}
 use Rattle.page_places.specs.Groups.{HasToldSizes, group_block, group_text}
-use Rattle.page_places.specs.Openings.{opening_value}
 use Rattle.page_places.specs.Tables.{told_value}
 use Rattle.page_places.specs.declared.openings.PlaceOpening.{PlaceOpening}
 use Rattle.page_html.proofs.Gathered.{writes_item}
@@ -20,5 +19,5 @@ loop-part-preserved c =
     writes_item groups c.loop-part.part-index part (group_text fs) (string_bytes c.args.page.now) now (string_bytes c.push_group.new.page)
     c.loop-part-test.true c.part-item.is c.loop-part.invariant
     (c.in_ok-push_group.ensures
-    ∙ ap (λ (maps : List ℕ). now ++ group_block fs (group_value part.group) maps (told_value part.table) (map opening_value c.as_slice.result.now)) c.as_str.ensures.value
-    ∙ ap (λ (openings : List PlaceOpening). now ++ group_block fs (group_value part.group) (string_bytes part.maps) (told_value part.table) (map opening_value openings)) c.as_slice.ensures)
+    ∙ ap (λ (maps : List ℕ). now ++ group_block fs (group_value part.group) maps (told_value part.table) c.as_slice.result.now) c.as_str.ensures.value
+    ∙ ap (λ (openings : List PlaceOpening). now ++ group_block fs (group_value part.group) (string_bytes part.maps) (told_value part.table) openings) c.as_slice.ensures)

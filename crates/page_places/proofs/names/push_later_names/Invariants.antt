@@ -1,10 +1,9 @@
 -- The names so far were added.
-use Rattle.std.proofs.Common.{◌≡◌, ◌++◌, codes, take}
+use Rattle.std.proofs.Common.{◌≡◌, ◌++◌, take}
 use Rattle.std.specs.List.{flat_map}
-use Rattle.std.specs.String.{string_bytes}
-use Rattle.page_places.specs.Names.{name, paths_in}
+use Rattle.page_html.specs.Titles.{titles_of}
+use Rattle.page_places.specs.Names.{later, paths_in}
 use Rattle.page_places.proofs.names.push_later_names.Given as goal
 
 abbrev pub invariant-loop-path : goal.invariant-loop-path
-invariant-loop-path l = string_bytes l.page ≡ string_bytes l.initial.page ++ flat_map (λ path. codes ", " ++ name l.spot path)
-    (paths_in (take l.path-index l.paths))
+invariant-loop-path l = titles_of l.title.items ≡ titles_of l.initial.title.items ++ flat_map later (paths_in (take l.path-index l.paths))

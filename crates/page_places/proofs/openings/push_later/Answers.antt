@@ -1,27 +1,17 @@
-use Rattle.std.proofs.Common.{◌++◌, ◌∙◌, ap, codes, map}
-use Rattle.std.specs.List.{flat_map}
-use Rattle.std.proofs.lemmas.List.{take_all}
-use Rattle.std.specs.String.{string_bytes}
-use Rattle.page_places.specs.Openings.{OpeningValue, opening_value, opening_words}
+use Rattle.std.proofs.Common.{◌++◌, ◌∷◌, ◌∙◌, [], ap, map, refl}
+use Rattle.page_findings.specs.Joining.{comma}
+use Rattle.page_html.specs.Parts.{item_of}
+use Rattle.page_findings.proofs.Gathering.{two_parts}
+use Rattle.page_places.specs.Openings.{opening_items}
 use Rattle.page_places.specs.declared.openings.PlaceOpening.{PlaceOpening}
-use Rattle.page_html.proofs.Gaining.{two_pieces}
-use Rattle.page_html.proofs.Gathered.{writes_values}
+use Rattle.page_places.proofs.Gathering.{gathers, one_more}
 use Rattle.page_places.proofs.openings.push_later.Goals as goal
 
 pub loop-one-preserved : goal.loop-one-preserved
 loop-one-preserved c =
-    let now = string_bytes c.loop-one.page in
-    let next = string_bytes c.push_opening.new.page in
-    let one = c.one-item.result in
-    let text = λ (value : OpeningValue). codes ", " ++ opening_words c.args.fs.0 value in
-    writes_values opening_value c.args.openings.now c.loop-one.one-index one text (string_bytes c.args.page.now) now next
-    c.loop-one-test.true c.loop-one.invariant
-    (two_pieces now (string_bytes c.push_str.new.self) next (codes ", ") (opening_words c.args.fs.0 (opening_value one)) c.in_ok-push_str.ensures.bytes
-    c.in_ok-push_opening.ensures
-    ∙ ap (λ (given : PlaceOpening). now ++ text (opening_value given)) c.one-item.is)
-
-pub returns : goal.returns
-returns c =
-    let text = λ (value : OpeningValue). codes ", " ++ opening_words c.args.fs.0 value in
-    c.loop-one.invariant ∙ ap (λ some. string_bytes c.args.page.now ++ flat_map text (map opening_value some))
-    (take_all c.loop-one.one-index c.args.openings.now c.loop-one-test.false)
+    let now = map item_of c.loop-one.parts.items in
+    gathers c.args.openings.now c.loop-one.one-index c.one-item.result (λ one. comma ∷ opening_items c.args.fs.0 one) (map item_of c.args.parts.now.items) now
+    (map item_of c.push_opening.new.parts.items) c.loop-one-test.true c.loop-one.invariant
+    (two_parts now (map item_of c.push.new.self.items) (map item_of c.push_opening.new.parts.items) (comma ∷ []) _
+    (one_more item_of c.loop-one.parts.items c.push.new.self.items _ comma c.in_ok-push.ensures.items refl) c.in_ok-push_opening.ensures
+    ∙ ap (λ (one : PlaceOpening). now ++ comma ∷ opening_items c.args.fs.0 one) c.one-item.is)

@@ -1,15 +1,14 @@
-use Rattle.std.specs.String.{string_bytes}
-use Rattle.std.proofs.lemmas.Result.{on_ok_weaker}
-use Rattle.desk_text.specs.Address.{number_of}
-use Rattle.desk_impact.specs.Places.{place_of}
-use Rattle.page_places.specs.Openings.{by_words, place_words, to_words}
-use Rattle.page_html.proofs.Gaining.{three_pieces}
+use Rattle.std.proofs.Common.{◌++◌, ◌∷◌, ◌∙◌, [], ap, codes, map}
+use Rattle.page_findings.proofs.Gathering.{all_more}
+use Rattle.page_html.specs.Items.{LineLink, Own, Range, Words}
+use Rattle.page_html.specs.Parts.{item_of}
 use Rattle.page_places.proofs.openings.push_opening.Goals as goal
 
 pub returns : goal.returns
 returns c =
     let one = c.args.one.now in
-    on_ok_weaker c.push_by.result
-    (three_pieces (string_bytes c.args.page.now) (string_bytes c.push_place.new.page) (string_bytes c.push_to.new.page) (string_bytes c.push_by.new.page)
-    (place_words (place_of one.place)) (to_words (number_of one.address)) (by_words c.args.fs.0 one.line one.denied) c.in_ok-push_place.ensures c.in_ok-push_to.ensures)
-    c.push_by.ensures
+    let fs = c.args.fs.0 in
+    all_more item_of c.args.parts.now.items c.extend_from_slice.new.self.items _ c.in_ok-extend_from_slice.ensures.items
+    ∙ ap (λ place. map item_of c.args.parts.now.items ++ place ∷ Own (Words (codes " to ")) ∷ Own (Range (record { first = one.address; last = one.address }))
+    ∷ Own (Words (codes " by ")) ∷ Own (LineLink fs one.line) ∷ Own (Words (codes " (denied here by ")) ∷ Own (LineLink fs one.denied)
+    ∷ Own (Words (codes ")")) ∷ []) c.place_part.ensures

@@ -2,8 +2,11 @@
 use Rattle.std.proofs.Common.{◌≡◌, ◌++◌, map, take}
 use Rattle.std.specs.List.{flat_map}
 use Rattle.std.specs.String.{string_bytes}
-use Rattle.page_places.specs.Rows.{row_text, row_value}
+use Rattle.page_html.specs.Tables.{row_html}
+use Rattle.page_places.specs.Rows.{cells, row_value, verdict_frame}
 use Rattle.page_places.proofs.tables.push_rows.Given as goal
 
 abbrev pub invariant-loop-row : goal.invariant-loop-row
-invariant-loop-row l = string_bytes l.page ≡ string_bytes l.initial.page ++ flat_map (row_text l.fs.0) (map row_value (take l.row-index l.rows))
+invariant-loop-row l =
+    string_bytes l.page ≡ string_bytes l.initial.page
+    ++ flat_map (row_html verdict_frame) (map (λ row. cells l.fs.0 (row_value row)) (take l.row-index l.rows))

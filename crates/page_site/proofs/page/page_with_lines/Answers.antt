@@ -33,6 +33,7 @@ returns g c =
         lines = c.requires.lines;
         maps = c.requires.found.maps;
       };
+      widening = c.requires.found.widening;
       is = record {
         first = begun;
         second = each.text ++ back.text;

@@ -6,7 +6,9 @@ use Rattle.page_findings.specs.Lines.{line_value}
 use Rattle.page_summary.specs.declared.findings.FindingRow.{FindingRow}
 use Rattle.page_summary.specs.SiteFinding.{finding_value, findings_among}
 use Rattle.page_summary.specs.Files.{line_values, text_in_force}
-use Rattle.page_summary.specs.FindingRows.{findings_text, row_of, row_value}
+use Rattle.page_html.proofs.Gaining.{two_pieces}
+use Rattle.page_summary.specs.Findings.{counted_findings, findings}
+use Rattle.page_summary.specs.FindingRows.{row_of, row_value}
 use Rattle.page_summary.proofs.finding_rows.push_findings_of.Goals as goal
 
 pub returns : goal.returns
@@ -28,10 +30,14 @@ returns c =
     ∙ ap (λ lines. map (row_of table lines) (map finding_value c.as_slice-4.result.now)) in_force
     ∙ ap (λ lent. map (row_of table (map (text_in_force heads) table)) (map finding_value lent)) c.as_slice-4.ensures.value
     ∙ ap (map (row_of table (map (text_in_force heads) table))) are_told in
-    on_ok_weaker c.push_rows.result
+    let old = string_bytes c.args.page.now in
+    let counted = string_bytes c.push_counted_findings.new.page in
+    on_ok_weaker c.push_findings.result
     (λ ended. record {
       made = rows;
       are = record { found = map line_value found; are = c.in_ok-found.ensures; told = are_rows };
-      added = ended ∙ ap (λ (rs : List FindingRow). string_bytes c.args.page.now ++ findings_text rs) c.as_slice-5.ensures.value;
+      added = two_pieces old counted (string_bytes c.push_findings.new.page) (counted_findings rows) (findings rows)
+          (c.in_ok-push_counted_findings.ensures ∙ ap (λ (rs : List FindingRow). old ++ counted_findings rs) c.as_slice-5.ensures.value)
+          (ended ∙ ap (λ (rs : List FindingRow). counted ++ findings rs) c.as_slice-6.ensures.value);
     })
-    c.push_rows.ensures
+    c.push_findings.ensures

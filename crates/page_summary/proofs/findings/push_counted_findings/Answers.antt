@@ -1,15 +1,11 @@
-use Rattle.std.proofs.Common.{codes}
+use Rattle.std.proofs.Common.{◌++◌, ◌-◌, ◌∙◌, ap, length}
 use Rattle.std.specs.String.{string_bytes}
-use Rattle.page_summary.specs.Findings.{levels, rules_words}
-use Rattle.page_html.proofs.Gaining.{three_pieces}
+use Rattle.std.proofs.lemmas.Result.{on_ok_weaker}
+use Rattle.page_summary.specs.Findings.{counts}
 use Rattle.page_summary.proofs.findings.push_counted_findings.Goals as goal
 
 pub returns : goal.returns
 returns c =
-    let s0 = string_bytes c.args.page.now in
-    let s1 = string_bytes c.push_str.new.self in
-    let s2 = string_bytes c.push_levels.new.page in
-    let s3 = string_bytes c.push_rules.new.page in
-    three_pieces s0 s1 s2 s3
-    (codes "<h3>What stands out</h3>\n<p>") (levels c.args.rows.now) rules_words
-    c.in_ok-push_str.ensures.bytes c.in_ok-push_levels.ensures c.in_ok-push_rules.ensures
+    let rows = c.args.rows.now in
+    on_ok_weaker c.push_element.result
+    (λ added. added ∙ ap (λ n. string_bytes c.args.page.now ++ counts n (length rows - n)) c.count_first-first.ensures) c.push_element.ensures

@@ -1,16 +1,19 @@
+use Rattle.std.proofs.Common.{[], ◌∷◌, codes, map}
 use Rattle.std.specs.String.{string_bytes}
-use Rattle.page_summary.specs.FlavoursTable.{rows}
-use Rattle.page_summary.specs.Tables.{table_end, table_start}
-use Rattle.page_summary.specs.declared.tables.Table.TheVariants.{Flavours}
+use Rattle.std.proofs.lemmas.Result.{on_ok_weaker}
+use Rattle.page_html.specs.Blocks.{tag_html}
+use Rattle.page_html.specs.Tables.{rows_html, table_start}
+use Rattle.page_html.specs.Titles.{Said}
+use Rattle.page_html.specs.declared.blocks.Tag.TheVariants.{TableEnd}
 use Rattle.page_html.proofs.Gaining.{three_pieces}
+use Rattle.page_summary.specs.FlavoursTable.{cells, flavours_frame}
 use Rattle.page_summary.proofs.flavours.push_flavours_table.Goals as goal
 
 pub returns : goal.returns
 returns c =
-    let s0 = string_bytes c.args.page.now in
-    let s1 = string_bytes c.push_table_start.new.page in
-    let s2 = string_bytes c.push_rows.new.page in
-    let s3 = string_bytes c.push_table_end.new.page in
-    three_pieces s0 s1 s2 s3
-    (table_start Flavours) (rows c.args.rows.now) table_end
-    c.in_ok-push_table_start.ensures c.in_ok-push_rows.ensures c.in_ok-push_table_end.ensures
+    on_ok_weaker c.push_tag.result
+    (three_pieces (string_bytes c.args.page.now) (string_bytes c.push_table_start.new.page) (string_bytes c.push_rows.new.page)
+    (string_bytes c.push_tag.new.page)
+    (table_start flavours_frame (Said (codes "Security flavours of the lines that grant") ∷ [])) (rows_html flavours_frame (map cells c.args.rows.now))
+    (tag_html TableEnd) c.in_ok-push_table_start.ensures c.in_ok-push_rows.ensures)
+    c.push_tag.ensures

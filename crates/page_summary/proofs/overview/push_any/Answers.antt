@@ -1,15 +1,15 @@
-use Rattle.std.proofs.Common.{codes}
+use Rattle.std.proofs.Common.{◌++◌, ◌∷◌, ◌∙◌, [], ap, codes}
 use Rattle.std.specs.String.{string_bytes}
-use Rattle.page_summary.specs.Overview.{reach_cells}
-use Rattle.page_html.proofs.Gaining.{three_pieces}
+use Rattle.std.proofs.lemmas.Result.{on_ok_weaker}
+use Rattle.page_html.specs.Items.{Own, Strong}
+use Rattle.page_summary.specs.Overview.{addresses_cell, row_around}
 use Rattle.page_summary.proofs.overview.push_any.Goals as goal
 
 pub returns : goal.returns
 returns c =
-    let s0 = string_bytes c.args.page.now in
-    let s1 = string_bytes c.push_str.new.self in
-    let s2 = string_bytes c.push_reach.new.page in
-    let s3 = string_bytes c.push_str-2.new.self in
-    three_pieces s0 s1 s2 s3
-    (codes "<tr><th scope=\"row\"><b>any of them</b></th>") (reach_cells c.args.together.now) (codes "<td></td><td></td><td></td></tr>\n")
-    c.in_ok-push_str.ensures.bytes c.in_ok-push_reach.ensures c.in_ok-push_str-2.ensures.bytes
+    let together = c.args.together.now in
+    on_ok_weaker c.push_around.result
+    (λ added. added ∙ ap (λ badge. string_bytes c.args.page.now
+    ++ row_around ((Own (Strong (codes "any of them")) ∷ []) ∷ (badge ∷ []) ∷ []) together.maps.now (addresses_cell together ∷ [] ∷ [] ∷ [] ∷ []))
+    c.badge_part.ensures)
+    c.push_around.ensures

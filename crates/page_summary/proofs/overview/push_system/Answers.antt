@@ -1,17 +1,28 @@
-use Rattle.std.proofs.Common.{codes}
+use Rattle.std.proofs.Common.{◌++◌, ◌∷◌, ◌∙◌, [], ap, refl}
+use Rattle.std.specs.Option.{option_copied}
 use Rattle.std.specs.String.{string_bytes}
-use Rattle.page_html.specs.Pieces.{system_link}
-use Rattle.page_summary.specs.Overview.{reach_cells}
-use Rattle.page_html.proofs.Gaining.{four_pieces}
+use Rattle.std.proofs.lemmas.Result.{on_ok_weaker}
+use Rattle.page_html.specs.Items.{System}
+use Rattle.page_html.specs.Parts.{item_of}
+use Rattle.page_lists.proofs.Gathering.{cell_before}
+use Rattle.page_summary.specs.Overview.{addresses_cell, in_force, keepers, row_around, standing_out}
 use Rattle.page_summary.proofs.overview.push_system.Goals as goal
 
 pub returns : goal.returns
 returns c =
-    let s0 = string_bytes c.args.page.now in
-    let s1 = string_bytes c.push_str.new.self in
-    let s2 = string_bytes c.push_system_link.new.page in
-    let s3 = string_bytes c.push_str-2.new.self in
-    let s4 = string_bytes c.push_reach.new.page in
-    four_pieces s0 s1 s2 s3 s4
-    (codes "<tr><th scope=\"row\">") (system_link c.args.row.now.fs.0 c.args.row.now.name.now) (codes "</th>") (reach_cells c.args.row.now.reach)
-    c.in_ok-push_str.ensures.bytes c.in_ok-push_system_link.ensures c.in_ok-push_str-2.ensures.bytes c.in_ok-push_reach.ensures
+    let system = c.args.row.now in
+    let old = string_bytes c.args.page.now in
+    let name = System system.fs.0 system.name.now ∷ [] in
+    let maps = system.reach.maps.now in
+    on_ok_weaker c.push_around.result
+    (λ added. added
+    ∙ ap (λ behind. old ++ row_around (name ∷ (item_of c.badge_part.result ∷ []) ∷ []) maps behind)
+    (cell_before _ _ _ _ refl
+    (cell_before _ _ _ _ (cell_before _ _ _ _ refl (cell_before _ _ _ _ c.part_if.ensures (cell_before _ _ _ _ c.part_if-2.ensures refl)))
+    (cell_before _ _ _ _ c.in_force-in_force.ensures (cell_before _ _ _ _ c.standing_out-standing_out.ensures refl))))
+    ∙ ap (λ badge. old
+    ++ row_around (name ∷ (badge ∷ []) ∷ []) maps
+    (addresses_cell system.reach ∷ keepers system.custodians.now system.guarded ∷ in_force (option_copied system.head) system.has_proposal
+    ∷ standing_out system.first system.check ∷ []))
+    c.badge_part.ensures)
+    c.push_around.ensures
