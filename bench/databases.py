@@ -47,10 +47,10 @@ def put_words(database, name, path, base, caller, key=None):
 
 
 def revisions(program, database, name):
-    """The numbers and authors that `log` lists for a file of the site."""
+    """The numbers and authors that `log` lists for a file of the site; who approved a revision stands behind its author."""
     found = []
     for line in answer(program, "log", database, name).decode().splitlines():
-        word, number, author = line.split(" ")
+        word, number, author, *_ = line.split(" ")
         if word != "rev":
             fail(f"`log` printed a line of another form: {line}")
         found.append((int(number), author))
