@@ -1,5 +1,5 @@
-//! The table of the commands. The command line that `clap` parses is made of it; the crate says which command and which
-//! words were found, and reads words such as numbers, addresses and credentials.
+//! The table of the commands. The command line that `clap` parses is made from it. The crate tells which command and
+//! which words were found, and reads words such as numbers, addresses and credentials.
 //!
 //! ```text
 //! let matches = command_line(alloc)?.try_get_matches_from(&["exportdesk", "log", "site.db", "hosts"])?;

@@ -1,5 +1,5 @@
-//! Tries connections on loopback: peers connect and write, the desk serves so many connections, beside one another, and
-//! then what each peer received, what was reported and what the desk holds is compared.
+//! Tries connections on loopback. Peers connect and write, and the desk serves them beside one another. Then each trial
+//! compares what each peer received, what was reported, and what the desk holds.
 #![tactic(auto)]
 
 mod command;

@@ -1,5 +1,5 @@
-//! A peer that is served beside others: its connection, the reply that it has not taken yet, and a wire of which no
-//! call waits.
+//! One peer among many: its connection, the part of the reply that it has not taken yet, and a wire whose calls never
+//! wait.
 //!
 //! ```text
 //! session.receive(&mut room);                       // Received::Bytes(false)

@@ -1,5 +1,5 @@
-//! What standard error says of mountd(8) beside a policy that is stored: at how many lines it decides otherwise, and
-//! what it grants more than before.
+//! What standard error says of mountd(8) about a stored policy: at how many lines mountd decides otherwise, and what it
+//! grants that it did not grant before.
 //!
 //! ```text
 //! // with `/a/x 10.0.0.5` and `/a -network 10.0.0.0/24`:

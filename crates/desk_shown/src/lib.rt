@@ -1,4 +1,9 @@
 //! Texts as they are shown, so that each character can be seen and none of them can write to the terminal.
+//!
+//! ```text
+//! // With a text of "a", the escape character and "b":
+//! push_shown(text, &mut shown)?;          // a\u{1b}b
+//! ```
 #![tactic(auto)]
 
 pub mod shown_text;

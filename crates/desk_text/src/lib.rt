@@ -1,4 +1,12 @@
 //! The texts of an export policy: addresses, networks, paths, logical lines and their words. (exports(5))
+//!
+//! ```text
+//! Addr::read("10.0.0.5")?.number()                // 167772165
+//! Path::read(alloc, "/usr/local")?.is_under(&usr) // true, where `usr` is /usr
+//! // With the text "/usr \\\n  -ro\n", one line that goes on behind its backslash:
+//! let lines = logical_lines(alloc, text)?;        // one line, of number 1
+//! words(alloc, &lines[0])?                        // `/usr` and `-ro`
+//! ```
 #![tactic(auto)]
 
 pub mod addr_set;
