@@ -10,10 +10,10 @@ use Rattle.std.specs.Str.{bytes_eq}
 use Rattle.std.specs.Str.Lines.{lines}
 use Rattle.page_html.specs.Blocks.{element_html, tag_html}
 use Rattle.page_html.specs.Items.{Code, Digits, Item, Line, Nothing, Number, Own, Strong, Words}
-use Rattle.page_html.specs.Pieces.{box_start}
-use Rattle.page_html.specs.Tables.{Frame, Name, Plain, marked_row_html}
+use Rattle.page_html.specs.Tables.{Frame, Name, Plain, marked_row_html, table_start}
+use Rattle.page_html.specs.Titles.{Named, Said}
 use Rattle.page_html.specs.declared.blocks.Element.TheVariants.{Paragraph}
-use Rattle.page_html.specs.declared.blocks.Tag.TheVariants.{ProposalStart}
+use Rattle.page_html.specs.declared.blocks.Tag.TheVariants.{ProposalStart, TableEnd}
 use Rattle.page_filesystem.specs.Sections.{heading}
 
 -- who proposes a text, as which revision, and what it needs if the file is guarded
@@ -56,16 +56,11 @@ abbrev pub proposed_rows : List (List ℕ) → ℕ → List (List ℕ) → List 
 proposed_rows in_force before [] = []
 proposed_rows in_force before (line ∷ others) = proposed_row (is_among in_force line) (before + 1) line ++ proposed_rows in_force (before + 1) others
 
--- the beginning of the table
-unfoldable pub proposed_heads : List ℕ
-proposed_heads =
-    codes "<table class=\"text\"><caption class=\"off\">Proposed text</caption>"
-    ++ codes "<thead><tr><th scope=\"col\">Line</th><th scope=\"col\">In force?</th><th scope=\"col\">Text</th></tr></thead><tbody>"
-
 -- The text that is proposed in the place of the one in force.
 abbrev pub proposed_text : List ℕ → List ℕ → List ℕ → List ℕ
 proposed_text name in_force text =
-    box_start (codes "Proposed text of ") name ++ proposed_heads ++ proposed_rows (lines in_force) 0 (lines text) ++ codes "</tbody></table></div>\n"
+    table_start frame (Said (codes "Proposed text of ") ∷ Named name ∷ [])
+    ++ proposed_rows (lines in_force) 0 (lines text) ++ tag_html TableEnd
 
 -- the order of lines in a set
 abbrev pub order : Bor (List ℕ) → Bor (List ℕ) → Ordering

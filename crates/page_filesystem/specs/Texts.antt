@@ -2,11 +2,11 @@
 use Rattle.std.specs.Prelude.{ℕ, ◌+◌, ◌==◌, false, List, [], ◌∷◌, ◌++◌, Option, codes, length, nat_le, if◌then◌else◌}
 use Rattle.std.specs.Str.Lines.{lines}
 use Rattle.page_html.specs.Blocks.{element_html, tag_html}
-use Rattle.page_html.specs.Items.{Code, Digits, Item, Line, Own, Plural, Words, items_html}
-use Rattle.page_html.specs.Pieces.{box_start}
-use Rattle.page_html.specs.Tables.{Count, Frame, Name, Plain, line_row_html}
+use Rattle.page_html.specs.Items.{Digits, Item, Line, Own, Plural, Words}
+use Rattle.page_html.specs.Tables.{Count, Frame, Name, Plain, line_row_html, table_start}
+use Rattle.page_html.specs.Titles.{Named, Said}
 use Rattle.page_html.specs.declared.blocks.Element.TheVariants.{Fold, Paragraph}
-use Rattle.page_html.specs.declared.blocks.Tag.TheVariants.{FoldEnd}
+use Rattle.page_html.specs.declared.blocks.Tag.TheVariants.{FoldEnd, TableEnd}
 use Rattle.page_filesystem.specs.Gutter.{count_item, note_on, said_items, stands_out}
 use Rattle.page_filesystem.specs.declared.gutter.Note.{Note}
 
@@ -33,23 +33,14 @@ abbrev pub text_rows : ℕ → List Note → ℕ → List (List ℕ) → List �
 text_rows fs notes before [] = []
 text_rows fs notes before (line ∷ others) = text_row fs notes (before + 1) line ++ text_rows fs notes (before + 1) others
 
--- the beginning of the table, whose box is called by fewer words than the caption has
-abbrev pub caption : List ℕ → List (Item (List ℕ))
-caption name = Own (Words (codes "Text of ")) ∷ Code name ∷ Own (Words (codes ", and what each line grants")) ∷ []
-
-unfoldable pub text_heads : List ℕ
-text_heads =
-    codes "</caption>\n<thead><tr><th scope=\"col\">Line</th><th scope=\"col\">It grants</th>"
-    ++ codes "<th scope=\"col\" class=\"num\">to addresses</th><th scope=\"col\">Text</th></tr></thead>\n<tbody>\n"
-
+-- the table of the lines of a text, which is called by the name of its file system
 abbrev pub text_start : List ℕ → List ℕ
-text_start name =
-    box_start (codes "Text of ") name ++ codes "<table class=\"text\"><caption class=\"off\">" ++ items_html (caption name) ++ text_heads
+text_start name = table_start frame (Said (codes "Text of ") ∷ Named name ∷ Said (codes ", and what each line grants") ∷ [])
 
 abbrev pub lines_table : ℕ → List ℕ → List Note → List ℕ → List ℕ
-lines_table fs name notes text = text_start name ++ text_rows fs notes 0 (lines text) ++ codes "</tbody></table></div>\n"
+lines_table fs name notes text = text_start name ++ text_rows fs notes 0 (lines text) ++ tag_html TableEnd
 
--- the table of the lines, or that there is none
+-- the same, or that the text has no line
 abbrev pub no_line : List (Item (List ℕ))
 no_line = Own (Words (codes "The text is empty: nobody may mount any of its directories.")) ∷ []
 

@@ -10,7 +10,7 @@ ghost use Rattle.page_filesystem.specs.Proposals.{HasLines};
 
 use crate::sections::push_heading;
 use page_html::{
-    Column, Element, Frame, Part, Tag, push_box_start, push_element, push_fixed, push_marked_row,
+    Column, Element, Frame, Part, Tag, Title, push_element, push_marked_row, push_table_start,
     push_tag,
 };
 use std::alloc::{AllocError, Global};
@@ -76,10 +76,14 @@ pub fn push_proposed_text(
     ensures { OnOk result (string_bytes page.new ≡ string_bytes page.old ++ spec.proposed_text name.now in_force.now text.now) }
 {
     let known = lines_of(alloc, in_force)?;
-    push_box_start("Proposed text of ", name, page)?;
-    push_proposed_heads(page)?;
+    push_table_start(
+        alloc,
+        &PROPOSED,
+        &[Title::Said("Proposed text of "), Title::Named(name)],
+        page,
+    )?;
     push_proposed_rows(alloc, &known, text, page)?;
-    push_fixed("</tbody></table></div>\n", page)
+    push_tag(Tag::TableEnd, page)
 }
 
 /// Gathers the physical lines of a text.
@@ -91,17 +95,6 @@ fn lines_of<'a>(alloc: Global, text: &'a str) -> Result<BTreeSet<&'a str>, Alloc
         known.insert(line)?;
     }
     Ok(known)
-}
-
-/// Begins the table of a proposed text.
-#[tactic(auto, unfolding(crate::specs::Proposals::proposed_heads))]
-fn push_proposed_heads(page: &mut String) -> Result<(), AllocError>
-    ensures { OnOk result (string_bytes page.new ≡ string_bytes page.old ++ spec.proposed_heads) }
-{
-    push_fixed(
-        "<table class=\"text\"><caption class=\"off\">Proposed text</caption><thead><tr><th scope=\"col\">Line</th><th scope=\"col\">In force?</th><th scope=\"col\">Text</th></tr></thead><tbody>",
-        page,
-    )
 }
 
 /// Adds the rows of the lines of a proposed text, given those of the text in force.

@@ -10,8 +10,8 @@ ghost use Rattle.page_filesystem.specs.Texts as spec;
 use crate::gutter::{Note, count_part, note_on, said_parts, stands_out};
 use desk_tables::FsId;
 use page_html::{
-    Column, Element, Frame, Part, Tag, push_box_start, push_element, push_fixed, push_line_row,
-    push_parts, push_tag,
+    Column, Element, Frame, Part, Tag, Title, push_element, push_line_row, push_table_start,
+    push_tag,
 };
 use std::alloc::{AllocError, Global};
 
@@ -123,31 +123,21 @@ fn push_lines_table(
 {
     push_text_start(alloc, name, page)?;
     push_text_rows(alloc, fs, text, notes, page)?;
-    push_fixed("</tbody></table></div>\n", page)
+    push_tag(Tag::TableEnd, page)
 }
 
-/// Begins the table. Its box is called by fewer words than the caption has.
+/// Begins the table.
 fn push_text_start(alloc: Global, name: &str, page: &mut String) -> Result<(), AllocError>
     ensures { OnOk result (string_bytes page.new ≡ string_bytes page.old ++ spec.text_start name.now) }
 {
-    let caption = [
-        Part::Words("Text of "),
-        Part::Code(name),
-        Part::Words(", and what each line grants"),
-    ];
-    push_box_start("Text of ", name, page)?;
-    push_fixed("<table class=\"text\"><caption class=\"off\">", page)?;
-    push_parts(alloc, &caption, page)?;
-    push_text_heads(page)
-}
-
-/// Ends the caption, and adds the heads of the columns.
-#[tactic(auto, unfolding(crate::specs::Texts::text_heads))]
-fn push_text_heads(page: &mut String) -> Result<(), AllocError>
-    ensures { OnOk result (string_bytes page.new ≡ string_bytes page.old ++ spec.text_heads) }
-{
-    push_fixed(
-        "</caption>\n<thead><tr><th scope=\"col\">Line</th><th scope=\"col\">It grants</th><th scope=\"col\" class=\"num\">to addresses</th><th scope=\"col\">Text</th></tr></thead>\n<tbody>\n",
+    push_table_start(
+        alloc,
+        &TEXT,
+        &[
+            Title::Said("Text of "),
+            Title::Named(name),
+            Title::Said(", and what each line grants"),
+        ],
         page,
     )
 }

@@ -49,6 +49,14 @@ element_html one items = element_start one ++ items_html items ++ element_end on
 
 -- a tag that stands alone
 abbrev pub tag_html : Tag → List ℕ
+tag_html tag.HeaderStart = codes "<header>\n<p class=\"kind\">Export report</p>\n"
+tag_html tag.SummaryStart = codes "<section id=\"summary\">\n<h2>Summary</h2>\n"
+tag_html tag.SystemsStart = codes "<section id=\"systems\">\n<h2>File systems</h2>\n"
+tag_html tag.NetworksStart = codes "<section id=\"networks\">\n<h2>Networks of the site</h2>\n"
+tag_html tag.EachStart = codes "<section id=\"each\">\n<h2>Each file system</h2>\n"
+tag_html tag.WarningsStart = codes "<section id=\"warnings\">\n<h2>Warnings</h2>\n"
+tag_html tag.NamesStart = codes "<section id=\"names\">\n<h2>Netgroups and names</h2>\n"
+tag_html tag.FilesStart = codes "<section id=\"files\">\n<h2>Files and revisions</h2>\n"
 tag_html tag.TableEnd = codes "</tbody>\n</table></div>\n"
 tag_html tag.FoldEnd = codes "</details>\n"
 tag_html tag.FindingsStart = codes "<ul class=\"mine\">"

@@ -16,4 +16,3 @@ pub mod Numbers
 pub mod Pieces
 pub mod Ranges
 pub mod Terms
-pub mod TextRows

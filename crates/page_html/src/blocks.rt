@@ -42,6 +42,16 @@ pub enum Element {
 /// A tag that stands alone.
 #[derive(Clone, Copy)]
 pub enum Tag {
+    /// The beginning of the page's header, and what the page is.
+    HeaderStart,
+    /// The sections of the page, each with its heading.
+    SummaryStart,
+    SystemsStart,
+    NetworksStart,
+    EachStart,
+    WarningsStart,
+    NamesStart,
+    FilesStart,
     TableEnd,
     FoldEnd,
     /// The list of what stands out of a file system.
@@ -127,6 +137,14 @@ fn tag_of(tag: Tag) -> &'static str
     ensures { result.now ≡ spec.tag_html tag }
 {
     match tag {
+        Tag::HeaderStart => "<header>\n<p class=\"kind\">Export report</p>\n",
+        Tag::SummaryStart => "<section id=\"summary\">\n<h2>Summary</h2>\n",
+        Tag::SystemsStart => "<section id=\"systems\">\n<h2>File systems</h2>\n",
+        Tag::NetworksStart => "<section id=\"networks\">\n<h2>Networks of the site</h2>\n",
+        Tag::EachStart => "<section id=\"each\">\n<h2>Each file system</h2>\n",
+        Tag::WarningsStart => "<section id=\"warnings\">\n<h2>Warnings</h2>\n",
+        Tag::NamesStart => "<section id=\"names\">\n<h2>Netgroups and names</h2>\n",
+        Tag::FilesStart => "<section id=\"files\">\n<h2>Files and revisions</h2>\n",
         Tag::TableEnd => "</tbody>\n</table></div>\n",
         Tag::FoldEnd => "</details>\n",
         Tag::FindingsStart => "<ul class=\"mine\">",
@@ -163,7 +181,8 @@ pub fn push_facts(
     page.push_str("</dl>\n")
 }
 
-/// Adds HTML of the page's own, which is the same on each page: how the page is read, say.
+/// Adds HTML of the page's own, which is the same on each page. Only four texts are printed by it: the links to the parts of the page, the
+/// legend, the shapes of the maps, and how the page is read.
 pub fn push_fixed(html: &'static str, page: &mut String) -> Result<(), AllocError>
     ensures { OnOk result (string_bytes page.new ≡ string_bytes page.old ++ html.now) }
 {

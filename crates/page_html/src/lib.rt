@@ -23,7 +23,6 @@ mod style;
 pub mod tables;
 pub mod terms;
 pub mod text_laws;
-pub mod text_rows;
 pub mod titles;
 
 pub use amounts::{push_and_more, push_percent, push_plural, push_portion};
@@ -36,15 +35,12 @@ pub use laws::{
 };
 pub use numbers::push_number;
 pub use parts::{Part, push_part, push_parts};
-pub use pieces::{
-    push_box_start, push_code, push_code_list, push_line_link, push_system_link, push_zero,
-};
+pub use pieces::{push_code, push_code_list, push_line_link, push_system_link};
 pub use ranges::{Span, push_network, push_range, push_ranges};
 pub use tables::{
-    Column, Frame, four_cells, push_cells, push_line_row, push_marked_row, push_row,
+    Column, Frame, four_cells, push_cell, push_cells, push_line_row, push_marked_row, push_row,
     push_table_start,
 };
 pub use terms::{push_flavours, push_terms};
 pub use text_laws::{no_text_is_markup, texts_are_told_apart};
-pub use text_rows::push_count_cell;
 pub use titles::Title;

@@ -1,11 +1,11 @@
-//! Pieces of the page: texts, links and boxes.
+//! Pieces of the page: texts and links.
 
 ghost use Rattle.std.specs.Prelude.{◌≡◌, ◌++◌, OnOk, codes};
 ghost use Rattle.std.specs.List.{flat_map};
 ghost use Rattle.std.specs.String.{string_bytes};
 ghost use Rattle.page_html.specs.Pieces as spec;
 
-use crate::escaping::{push_attribute, push_escaped};
+use crate::escaping::push_escaped;
 use desk_tables::FsId;
 use desk_text::Text;
 use std::alloc::AllocError;
@@ -43,13 +43,6 @@ fn push_later(texts: &[Text], page: &mut String) -> Result<(), AllocError>
     Ok(())
 }
 
-/// Adds words that stand for nothing.
-pub fn push_zero(words: &str, page: &mut String) -> Result<(), AllocError>
-    ensures { OnOk result (string_bytes page.new ≡ string_bytes page.old ++ spec.zero words.now) }
-{
-    write!(page, "<span class=\"zero\">{words}</span>")
-}
-
 /// Adds a link to a line of the text of a file system.
 pub fn push_line_link(fs: FsId, line: u32, page: &mut String) -> Result<(), AllocError>
     ensures { OnOk result (string_bytes page.new ≡ string_bytes page.old ++ spec.line_link fs.0 line) }
@@ -69,16 +62,4 @@ pub fn push_system_link(fs: FsId, name: &str, page: &mut String) -> Result<(), A
     write!(page, "<a href=\"#f{number}\">")?;
     push_code(name, page)?;
     page.push_str("</a>")
-}
-
-/// Begins a box in which a wide table can be scrolled, and which is called by words without markup and a name.
-pub fn push_box_start(words: &str, name: &str, page: &mut String) -> Result<(), AllocError>
-    ensures { OnOk result (string_bytes page.new ≡ string_bytes page.old ++ spec.box_start words.now name.now) }
-{
-    write!(
-        page,
-        "<div class=\"wide\" tabindex=\"0\" role=\"region\" aria-label=\"{words}"
-    )?;
-    push_attribute(name, page)?;
-    page.push_str("\">")
 }

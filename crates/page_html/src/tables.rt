@@ -139,8 +139,8 @@ pub fn push_cells(
     Ok(())
 }
 
-/// Adds a cell.
-fn push_cell(
+/// Adds a cell of a column.
+pub fn push_cell(
     alloc: Global,
     column: Column,
     parts: &[Part<'_>],

@@ -8,6 +8,7 @@ use Rattle.page_data.specs.declared.class.Class.{Class}
 use Rattle.page_maps.specs.Maps.{AreMapsFrom, fixed_maps, maps_with_fixed}
 use Rattle.page_html.specs.Blocks.{element_html, tag_html}
 use Rattle.page_html.specs.Items.{Item, Drawn, Nothing, Own, PartOf, Plural, Words, items_html}
+use Rattle.page_html.specs.Tables.{Plain, cell_html}
 use Rattle.page_html.specs.declared.blocks.Element.TheVariants.{Cut, Figure}
 use Rattle.page_html.specs.declared.blocks.Tag.TheVariants.{MapsEnd, MapsStart}
 use Rattle.page_maps.specs.Drawing.{large_map, network_item, small_map}
@@ -97,9 +98,9 @@ pub record GainsGroupMaps (runs : List (Run Class)) (page gained : List ℕ) : T
   pub are : AreMapsFrom runs needed
   pub maps : GainsMaps runs most_of_group needed page gained
 
--- a cell of a table with a small map
+-- a cell of a table with a small map, whatever the head of its column is
 abbrev pub small_cell : DrawnMap → List ℕ
-small_cell drawn = codes "<td>" ++ small_map drawn ++ codes "</td>"
+small_cell drawn = cell_html (Plain []) (Own (Drawn (small_map drawn)) ∷ [])
 
 -- The four cells of a row of the table of file systems: the maps that each one has.
 pub record GainsOverviewMaps (runs : List (Run Class)) (page gained : List ℕ) : Type 0 where

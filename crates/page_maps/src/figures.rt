@@ -18,13 +18,16 @@ use crate::maps::{maps_of, with_fixed_maps};
 use desk_text::Net;
 use desk_who::Run;
 use page_data::Class;
-use page_html::{Drawn, Element, Part, Tag, push_element, push_fixed, push_part, push_tag};
+use page_html::{Column, Drawn, Element, Part, Tag, push_cell, push_element, push_tag};
 use std::alloc::{AllocError, Global};
 
 /// How many maps a file system has at most, and how many a group of directories: `most_of_file_system` and `most_of_group`.
 const MOST_OF_FILE_SYSTEM: usize = 12;
 
 const MOST_OF_GROUP: usize = 6;
+
+/// A column of small maps, whatever its head is.
+const MAP: Column = Column::Plain("");
 
 /// Adds the maps of a file system: those that each one has, and then the others that are needed, at most 12; and how many are not drawn.
 pub fn push_file_system_maps(
@@ -253,9 +256,7 @@ fn push_small_cell(alloc: Global, drawn: &DrawnMap, page: &mut String) -> Result
     ensures { OnOk result (string_bytes page.new ≡ string_bytes page.old ++ spec.small_cell drawn.now) }
 {
     let image = small_image(alloc, drawn)?;
-    push_fixed("<td>", page)?;
-    push_part(alloc, Part::Drawn(&image), page)?;
-    push_fixed("</td>", page)?;
+    push_cell(alloc, MAP, &[Part::Drawn(&image)], page)?;
     Ok(())
 }
 

@@ -1,8 +1,9 @@
 -- The key figures of a site. (this project's own)
 use Rattle.std.specs.Prelude.{ℕ, List, [], ◌∷◌, ◌++◌, codes, false}
-use Rattle.page_html.specs.Blocks.{facts_html}
+use Rattle.page_html.specs.Blocks.{facts_html, tag_html}
 use Rattle.page_html.specs.Items.{Item, Number, Own, OwnPart, Small, SmallCount, SmallPlural, Words}
 use Rattle.page_html.specs.Tables.{Fact, Frame}
+use Rattle.page_html.specs.declared.blocks.Tag.TheVariants.{SummaryStart}
 use Rattle.page_summary.specs.declared.figures.Figures.{Figures}
 
 -- the terms
@@ -31,8 +32,5 @@ facts counted =
     ∷ figure counted.proposals (Small (codes "not in force")) ∷ []
 
 -- the beginning of the summary: all of them
-abbrev pub summary_start : List ℕ
-summary_start = codes "<section id=\"summary\">\n<h2>Summary</h2>\n"
-
 abbrev pub figures : Figures → List ℕ
-figures counted = summary_start ++ facts_html figures_frame (facts counted)
+figures counted = tag_html SummaryStart ++ facts_html figures_frame (facts counted)

@@ -1,13 +1,11 @@
 -- The header of the page. (this project's own)
 use Rattle.std.specs.Prelude.{ℕ, List, [], ◌∷◌, ◌++◌, codes}
-use Rattle.page_html.specs.Blocks.{element_html}
+use Rattle.page_html.specs.Blocks.{element_html, tag_html}
 use Rattle.page_html.specs.Items.{Code, Own, Plural, Words}
 use Rattle.page_html.specs.declared.blocks.Element.TheVariants.{Paragraph, State, Title}
+use Rattle.page_html.specs.declared.blocks.Tag.TheVariants.{HeaderStart}
 use Rattle.page_summary.specs.declared.header.Header.{Header}
 use Rattle.page_summary.specs.declared.header.TheConstants.{LINKS}
-
-abbrev pub header_start : List ℕ
-header_start = codes "<header>\n<p class=\"kind\">Export report</p>\n"
 
 -- the title, with the word for the database, and what the page is made of
 abbrev pub title : List ℕ → List ℕ
@@ -31,4 +29,4 @@ links = LINKS.now
 
 -- the header, and the links
 abbrev pub header : Header → List ℕ
-header told = header_start ++ title told.database.now ++ scope ++ state told ++ links
+header told = tag_html HeaderStart ++ title told.database.now ++ scope ++ state told ++ links

@@ -4,7 +4,7 @@ ghost use Rattle.std.specs.Prelude.{◌≡◌, ◌++◌, OnOk};
 ghost use Rattle.std.specs.String.{string_bytes};
 ghost use Rattle.page_summary.specs.Figures as spec;
 
-use page_html::{Column, Frame, Part, push_facts, push_fixed};
+use page_html::{Column, Frame, Part, Tag, push_facts, push_tag};
 use std::alloc::{AllocError, Global};
 
 /// Their list.
@@ -47,7 +47,7 @@ pub struct Figures {
 pub fn push_figures(alloc: Global, figures: &Figures, page: &mut String) -> Result<(), AllocError>
     ensures { OnOk result (string_bytes page.new ≡ string_bytes page.old ++ spec.figures figures.now) }
 {
-    push_fixed("<section id=\"summary\">\n<h2>Summary</h2>\n", page)?;
+    push_tag(Tag::SummaryStart, page)?;
     let facts: [&[Part<'_>]; 7] = [
         &[
             Part::Number(figures.systems),

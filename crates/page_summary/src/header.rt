@@ -4,7 +4,7 @@ ghost use Rattle.std.specs.Prelude.{◌≡◌, ◌++◌, OnOk};
 ghost use Rattle.std.specs.String.{string_bytes};
 ghost use Rattle.page_summary.specs.Header as spec;
 
-use page_html::{Element, Part, push_element, push_fixed};
+use page_html::{Element, Part, Tag, push_element, push_fixed, push_tag};
 use std::alloc::{AllocError, Global};
 
 /// What the header tells of a database: the word for it, how many revisions and files it has, and the digest of its state.
@@ -26,7 +26,7 @@ const LINKS: &str = r##"</header>
 pub fn push_header(alloc: Global, header: &Header<'_>, page: &mut String) -> Result<(), AllocError>
     ensures { OnOk result (string_bytes page.new ≡ string_bytes page.old ++ spec.header header.now) }
 {
-    push_fixed("<header>\n<p class=\"kind\">Export report</p>\n", page)?;
+    push_tag(Tag::HeaderStart, page)?;
     push_element(
         alloc,
         Element::Title,

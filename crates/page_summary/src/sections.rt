@@ -4,7 +4,7 @@ ghost use Rattle.std.specs.Prelude.{◌≡◌, ◌++◌, OnOk};
 ghost use Rattle.std.specs.String.{string_bytes};
 ghost use Rattle.page_summary.specs.Sections as spec;
 
-use page_html::{Tag, push_fixed, push_tag};
+use page_html::{Tag, push_tag};
 use std::alloc::AllocError;
 
 /// A section of the page, but for the summary.
@@ -19,24 +19,24 @@ pub enum Section {
 }
 
 /// Begins a section, with its heading.
+#[tactic(auto, unfolding(crate::specs::Sections::section_start))]
 pub fn push_section_start(section: Section, page: &mut String) -> Result<(), AllocError>
     ensures { OnOk result (string_bytes page.new ≡ string_bytes page.old ++ spec.section_start section) }
 {
-    push_fixed(start_of(section), page)
+    push_tag(tag_of(section), page)
 }
 
-/// Returns how a section begins.
-#[tactic(auto, unfolding(crate::specs::Sections::section_start))]
-fn start_of(section: Section) -> &'static str
-    ensures { result.now ≡ spec.section_start section }
+/// Returns the tag by which a section begins.
+fn tag_of(section: Section) -> Tag
+    ensures { result ≡ spec.tag_of section }
 {
     match section {
-        Section::Systems => "<section id=\"systems\">\n<h2>File systems</h2>\n",
-        Section::Networks => "<section id=\"networks\">\n<h2>Networks of the site</h2>\n",
-        Section::Each => "<section id=\"each\">\n<h2>Each file system</h2>\n",
-        Section::Warnings => "<section id=\"warnings\">\n<h2>Warnings</h2>\n",
-        Section::Names => "<section id=\"names\">\n<h2>Netgroups and names</h2>\n",
-        Section::Files => "<section id=\"files\">\n<h2>Files and revisions</h2>\n",
+        Section::Systems => Tag::SystemsStart,
+        Section::Networks => Tag::NetworksStart,
+        Section::Each => Tag::EachStart,
+        Section::Warnings => Tag::WarningsStart,
+        Section::Names => Tag::NamesStart,
+        Section::Files => Tag::FilesStart,
     }
 }
 

@@ -10,14 +10,20 @@ OPEN_ROWS, OPEN_RANGES, MOST_RANGES = 24, 8, 256
 def table(caption, heads, rows, css="", is_hidden=False, label=None):
     """Rows of cells, of which the first is the heading. A head that ends in # is that of numbers. The label says what the caption
     says as text, if that has markup."""
-    kind = f' class="{css}"' if css else ""
-    off = ' class="off"' if is_hidden else ""
-    head = "".join(f'<th scope="col"{number_class(head)}>{head.rstrip("#")}</th>' for head in heads)
-    made = f"<table{kind}>\n<caption{off}>{caption}</caption>\n<thead><tr>{head}</tr></thead>\n<tbody>\n"
+    made = ""
     for first, *others in rows:
         cells = "".join(f"<td{number_class(head)}>{cell}</td>" for head, cell in zip(heads[1:], others))
         made += f'<tr><th scope="row">{first}</th>{cells}</tr>\n'
-    return box(label or caption, f"{made}</tbody>\n</table>")
+    return table_of(caption, heads, made, css, is_hidden, label)
+
+
+def table_of(caption, heads, made, css="", is_hidden=False, label=None):
+    """The same of rows that are made already."""
+    kind = f' class="{css}"' if css else ""
+    off = ' class="off"' if is_hidden else ""
+    head = "".join(f'<th scope="col"{number_class(head)}>{head.rstrip("#")}</th>' for head in heads)
+    start = f"<table{kind}>\n<caption{off}>{caption}</caption>\n<thead><tr>{head}</tr></thead>\n<tbody>\n"
+    return box(label or caption, f"{start}{made}</tbody>\n</table>")
 
 
 def number_class(head):

@@ -8,7 +8,7 @@ from reference.report.data import (
     GRANTS_MORE, LEFT_OUT, PRIVATE, SPACE, FileSystem, changed_places, class_of, classes_of, counts, network_ends, size_of,
 )  # fmt: skip
 from reference.report.maps import figures
-from reference.report.pieces import box, cut, folded, folded_if_long, level_mark, line_link, ranges_cell, table, zero
+from reference.report.pieces import cut, folded, folded_if_long, level_mark, line_link, ranges_cell, table, table_of, zero
 from reference.report.text import (
     and_more, class_badge, class_parts, code, codes, escaped, escaped_line, network_text, number, part_words, percent, plural,
     range_text, terms_badge, terms_words,
@@ -80,10 +80,9 @@ def text_table(system, text, marked):
         if words_of(line)[0][0].startswith("V4:"):
             notes[line.number] = zero("not read"), ""
     rows = "".join(text_row(system, part, marked, *notes.get(part.number, ("", ""))) for part in physical_lines(text))
-    heads = '<th scope="col">Line</th><th scope="col">It grants</th><th scope="col" class="num">to addresses</th>'
-    caption = f'<caption class="off">Text of {code(system.name)}, and what each line grants</caption>'
-    head = f'<thead><tr>{heads}<th scope="col">Text</th></tr></thead>'
-    return box(f"Text of {system.name}", f'<table class="text">{caption}\n{head}\n<tbody>\n{rows}</tbody></table>')
+    heads = ["Line", "It grants", "to addresses#", "Text"]
+    caption, label = (f"Text of {name}, and what each line grants" for name in (code(system.name), system.name))
+    return table_of(caption, heads, rows, "text", True, label)
 
 
 def text_row(system, part, marked, note, count):
@@ -281,9 +280,8 @@ def outcome_block(desk, system):
 def proposed_text(system, old, text):
     in_force = {part.whole for part in physical_lines(old)}
     rows = "".join(proposed_row(part, part.whole in in_force) for part in physical_lines(text))
-    heads = '<th scope="col">Line</th><th scope="col">In force?</th><th scope="col">Text</th>'
-    caption = f'<caption class="off">Proposed text</caption><thead><tr>{heads}</tr></thead>'
-    return box(f"Proposed text of {system.name}", f'<table class="text">{caption}<tbody>{rows}</tbody></table>')
+    caption, label = (f"Proposed text of {name}" for name in (code(system.name), system.name))
+    return table_of(caption, ["Line", "In force?", "Text"], rows, "text", True, label)
 
 
 def proposed_row(part, is_in_force):
