@@ -41,8 +41,8 @@ pub use pieces::{
 };
 pub use ranges::{Span, push_network, push_range, push_ranges};
 pub use tables::{
-    Column, Frame, four_cells, push_cells, push_line_row, push_marked_row, push_row,
-    push_table_start,
+    Column, Frame, five_cells, four_cells, push_cells, push_line_row, push_marked_row, push_row,
+    push_table_start, seven_cells,
 };
 pub use terms::{push_flavours, push_terms};
 pub use text_laws::{no_text_is_markup, texts_are_told_apart};
