@@ -9,7 +9,7 @@ use Rattle.page_data.specs.Class.{keeps_root}
 use Rattle.page_data.specs.declared.reasons.Level.{Level}
 use Rattle.page_data.specs.declared.reasons.Level.TheVariants.{LookFirst, Check}
 use Rattle.page_data.specs.declared.reasons.Reason.{Reason}
-use Rattle.page_data.specs.declared.reasons.Reason.TheVariants.{NoClient, NeverDecides, ForEverybodyReadOnly, ForEverybodyReadWrite, Wide, RootKeptForNetworks, RootKeptForNames, ServerGrantsMore, RepeatedClient}
+use Rattle.page_data.specs.declared.reasons.Reason.TheVariants as reasons
 
 -- clients are everybody: neither names nor a network are written, or a network of all addresses
 abbrev pub are_all : Clients → Bool
@@ -32,12 +32,12 @@ narrow = 65536
 -- why a line stands out by whom it is for: it is for everybody, or for more addresses than a line is narrow for
 abbrev pub audience_reason : Row → ℕ → Option Reason
 audience_reason row count =
-    if are_all row.entry.clients then (if row.entry.terms.ro then Some ForEverybodyReadOnly else Some ForEverybodyReadWrite)
-    else (if nat_lt narrow count then Some Wide else None)
+    if are_all row.entry.clients then (if row.entry.terms.ro then Some reasons.ForEverybodyReadOnly else Some reasons.ForEverybodyReadWrite)
+    else (if nat_lt narrow count then Some reasons.Wide else None)
 
 -- that root is kept, for names or for others
 abbrev pub root_reason : Row → Option Reason
-root_reason row = if keeps_root row.entry.terms then (if are_names row.entry.clients then Some RootKeptForNames else Some RootKeptForNetworks) else None
+root_reason row = if keeps_root row.entry.terms then (if are_names row.entry.clients then Some reasons.RootKeptForNames else Some reasons.RootKeptForNetworks) else None
 
 -- Why a line stands out that grants something to so many addresses.
 abbrev pub reasons_on : Row → ℕ → List Reason
@@ -45,15 +45,15 @@ reasons_on row count = option_to_list (audience_reason row count) ++ option_to_l
 
 -- what to look at first, and what to check
 abbrev pub level_of : Reason → Level
-level_of NoClient = Check
-level_of NeverDecides = Check
-level_of ForEverybodyReadOnly = Check
-level_of ForEverybodyReadWrite = LookFirst
-level_of Wide = Check
-level_of RootKeptForNetworks = LookFirst
-level_of RootKeptForNames = Check
-level_of (ServerGrantsMore found) = LookFirst
-level_of (RepeatedClient found) = LookFirst
+level_of reasons.NoClient = Check
+level_of reasons.NeverDecides = Check
+level_of reasons.ForEverybodyReadOnly = Check
+level_of reasons.ForEverybodyReadWrite = LookFirst
+level_of reasons.Wide = Check
+level_of reasons.RootKeptForNetworks = LookFirst
+level_of reasons.RootKeptForNames = Check
+level_of (reasons.ServerGrantsMore found) = LookFirst
+level_of (reasons.RepeatedClient found) = LookFirst
 
 -- a reason is one to look at first
 abbrev pub is_first_level : Level → Bool

@@ -22,13 +22,7 @@ granted line = Grants (class_of_terms line.row.entry.terms) (are_all line.row.en
 abbrev pub said_by : LineValue → Reason → Said
 said_by line reasons.NoClient = MatchesNobody
 said_by line reasons.NeverDecides = NeverDecides
-said_by line reasons.ForEverybodyReadOnly = granted line
-said_by line reasons.ForEverybodyReadWrite = granted line
-said_by line reasons.Wide = granted line
-said_by line reasons.RootKeptForNetworks = granted line
-said_by line reasons.RootKeptForNames = granted line
-said_by line (reasons.ServerGrantsMore found) = granted line
-said_by line (reasons.RepeatedClient found) = granted line
+said_by line _ = granted line
 
 -- the same, by the first of the reasons for which it stands out, if it does
 abbrev pub said_for : LineValue → List Reason → Said

@@ -11,7 +11,7 @@ use Rattle.desk_impact.specs.Sections.{PlaceBreaches}
 use Rattle.page_data.specs.Sections.{AreSections, is_section_in}
 use Rattle.page_data.specs.declared.lines.LineReasons.{LineReasons}
 use Rattle.page_data.specs.declared.reasons.Reason.{Reason}
-use Rattle.page_data.specs.declared.reasons.Reason.TheVariants.{NoClient, NeverDecides, ForEverybodyReadOnly, ForEverybodyReadWrite, Wide, RootKeptForNetworks, RootKeptForNames, ServerGrantsMore, RepeatedClient}
+use Rattle.page_data.specs.declared.reasons.Reason.TheVariants as reasons
 use Rattle.page_findings.specs.declared.deciding.Deciding.{Deciding as Kept}
 
 -- A line decides for a client of this one: the verdict for an address that this one matches, on some path of the file system, names it.
@@ -56,15 +56,8 @@ pub record IsDecidedFor (content : Content) (fs : ℕ) (one : DecidedFor) : Type
 
 -- it is told of a line that it matches somebody, but decides nothing
 abbrev pub is_never : Reason → Bool
-is_never NoClient = false
-is_never NeverDecides = true
-is_never ForEverybodyReadOnly = false
-is_never ForEverybodyReadWrite = false
-is_never Wide = false
-is_never RootKeptForNetworks = false
-is_never RootKeptForNames = false
-is_never (ServerGrantsMore found) = false
-is_never (RepeatedClient found) = false
+is_never reasons.NeverDecides = true
+is_never _ = false
 
 -- so it is by the first of these reasons (behind it stands at most what the server does otherwise)
 abbrev pub never_decides : List Reason → Bool

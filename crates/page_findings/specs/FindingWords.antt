@@ -9,7 +9,7 @@ use Rattle.desk_exports.specs.declared.entry.Mapping.{Mapping}
 use Rattle.desk_exports.specs.declared.entry.Mapping.TheVariants.{All, Root}
 use Rattle.desk_exports.specs.declared.entry.Terms.{Terms}
 use Rattle.page_data.specs.declared.reasons.Reason.{Reason}
-use Rattle.page_data.specs.declared.reasons.Reason.TheVariants.{NoClient, NeverDecides, ForEverybodyReadOnly, ForEverybodyReadWrite, Wide, RootKeptForNetworks, RootKeptForNames, ServerGrantsMore, RepeatedClient}
+use Rattle.page_data.specs.declared.reasons.Reason.TheVariants as reasons
 use Rattle.desk_server.specs.declared.repeated_client.RepeatedClient.{RepeatedClient as Repeated}
 use Rattle.desk_server.specs.declared.wider_grant.WiderGrant.{WiderGrant}
 use Rattle.page_html.specs.declared.ranges.Span.{Span}
@@ -85,15 +85,15 @@ repeated fs found =
 
 -- a reason why a line stands out
 abbrev pub reason_items : Finding → Reason → List (Item (List ℕ))
-reason_items finding NoClient = Own (Words (codes "matches nobody")) ∷ []
-reason_items finding NeverDecides = deciding finding.fs.0 finding.deciding.now
-reason_items finding ForEverybodyReadOnly = for_everybody (codes "read-only") finding.terms.now
-reason_items finding ForEverybodyReadWrite = for_everybody (codes "read-write") finding.terms.now
-reason_items finding Wide = Own (Words (codes "wide: over 65,536 addresses")) ∷ []
-reason_items finding RootKeptForNetworks = root_kept finding.terms.now finding.is_for_network
-reason_items finding RootKeptForNames = root_kept finding.terms.now finding.is_for_network
-reason_items finding (ServerGrantsMore found) = wider finding.fs.0 found
-reason_items finding (RepeatedClient found) = repeated finding.fs.0 found
+reason_items finding reasons.NoClient = Own (Words (codes "matches nobody")) ∷ []
+reason_items finding reasons.NeverDecides = deciding finding.fs.0 finding.deciding.now
+reason_items finding reasons.ForEverybodyReadOnly = for_everybody (codes "read-only") finding.terms.now
+reason_items finding reasons.ForEverybodyReadWrite = for_everybody (codes "read-write") finding.terms.now
+reason_items finding reasons.Wide = Own (Words (codes "wide: over 65,536 addresses")) ∷ []
+reason_items finding reasons.RootKeptForNetworks = root_kept finding.terms.now finding.is_for_network
+reason_items finding reasons.RootKeptForNames = root_kept finding.terms.now finding.is_for_network
+reason_items finding (reasons.ServerGrantsMore found) = wider finding.fs.0 found
+reason_items finding (reasons.RepeatedClient found) = repeated finding.fs.0 found
 
 -- reasons with commas between them, and all reasons why a line stands out
 abbrev pub reasons_items : Finding → List Reason → List (Item (List ℕ))

@@ -44,6 +44,37 @@ pub fn four_cells<'a>(
     [first, second, third, fourth]
 }
 
+/// Makes a row of five cells.
+pub fn five_cells<'a>(
+    first: &'a [Part<'a>],
+    second: &'a [Part<'a>],
+    third: &'a [Part<'a>],
+    fourth: &'a [Part<'a>],
+    fifth: &'a [Part<'a>],
+) -> [&'a [Part<'a>]; 5]
+    ensures { map (λ cell. items_of cell.now) result
+        ≡ items_of first.now ∷ items_of second.now ∷ items_of third.now ∷ items_of fourth.now ∷ items_of fifth.now ∷ [] }
+{
+    [first, second, third, fourth, fifth]
+}
+
+/// Makes a row of seven cells.
+pub fn seven_cells<'a>(
+    first: &'a [Part<'a>],
+    second: &'a [Part<'a>],
+    third: &'a [Part<'a>],
+    fourth: &'a [Part<'a>],
+    fifth: &'a [Part<'a>],
+    sixth: &'a [Part<'a>],
+    seventh: &'a [Part<'a>],
+) -> [&'a [Part<'a>]; 7]
+    ensures { map (λ cell. items_of cell.now) result
+        ≡ items_of first.now ∷ items_of second.now ∷ items_of third.now ∷ items_of fourth.now ∷ items_of fifth.now ∷ items_of sixth.now
+        ∷ items_of seventh.now ∷ [] }
+{
+    [first, second, third, fourth, fifth, sixth, seventh]
+}
+
 /// Adds a row, with a cell for each column.
 pub fn push_row(
     alloc: Global,

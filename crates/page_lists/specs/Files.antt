@@ -1,9 +1,10 @@
 -- The files of a site, and their newest revisions. (this project's own)
 use Rattle.std.specs.Prelude.{◌≡◌, ℕ, Bool, not, List, [], ◌∷◌, ◌++◌, Option, Some, None, codes, length, map, true, if◌then◌else◌}
-use Rattle.std.specs.Option.{option_copied, option_map}
+use Rattle.std.specs.Option.{option_map}
+use Rattle.std.specs.String.{string_bytes}
 use Rattle.desk_core.specs.Head.{Revision}
 use Rattle.desk_core.specs.Judging.{is_known}
-use Rattle.desk_core.specs.Listing.{AreHeldFiles, HeldFile, name_of}
+use Rattle.desk_core.specs.Listing.{AreHeldFiles, HeldFile, file_of, name_of}
 use Rattle.desk_core.specs.Standing.{Standing}
 use Rattle.desk_core.specs.declared.head.Head.{Head}
 use Rattle.desk_exports.specs.Profile.{profile_number}
@@ -32,21 +33,36 @@ frame = record {
 abbrev pub dash : Item (List ℕ)
 dash = Own (Words (codes "-"))
 
--- who wrote a revision, and who approved it, if somebody did
-abbrev pub author : Head → Item (List ℕ)
-author head = Code head.author
+-- of the newest revision of a file: its number, who wrote it, and who approved it, if somebody did
+abbrev pub revision : Option Head → Item (List ℕ)
+revision None = dash
+revision (Some head) = number head.rev
 
-abbrev pub approver : Option (List ℕ) → Item (List ℕ)
+abbrev pub author : Option Head → Item (List ℕ)
+author None = dash
+author (Some head) = Code head.author
+
+abbrev pub name_or_dash : Option (List ℕ) → Item (List ℕ)
+name_or_dash None = dash
+name_or_dash (Some name) = Code name
+
+abbrev pub approver : Option Head → Item (List ℕ)
 approver None = dash
-approver (Some name) = Code name
+approver (Some head) = name_or_dash head.approver
 
 -- by which profile an exports file is read
-abbrev pub profile : Head → Item (List ℕ)
-profile head = if is_of_seven head.file then dash else Own (Digits (profile_number head.profile))
+abbrev pub profile : Option Head → Item (List ℕ)
+profile None = dash
+profile (Some head) = if is_of_seven head.file then dash else Own (Digits (profile_number head.profile))
 
--- how many bytes the text of a revision has
-abbrev pub size : Head → Item (List ℕ)
-size head = Own (Number (length head.body))
+-- how many bytes the text has, and the digest of them
+abbrev pub size : Option Head → Item (List ℕ)
+size None = dash
+size (Some head) = Own (Number (length head.body))
+
+abbrev pub digest : Option Head → List ℕ → Item (List ℕ)
+digest None of_text = dash
+digest (Some head) of_text = Digest of_text
 
 -- what is remarkable of a file: who proposes another text, and that it is the exports file of no file system that is listed
 abbrev pub unlisted_or : Bool → List ℕ → List ℕ → Item (List ℕ)
@@ -59,31 +75,6 @@ abbrev pub remark : Option (List ℕ) → Bool → List (Item (List ℕ))
 remark None is_unlisted = unlisted_or is_unlisted (codes "unlisted") (codes "-") ∷ Own Nothing ∷ Own Nothing ∷ []
 remark (Some name) is_unlisted = proposed_by name is_unlisted
 
--- a file without a revision: what is remarkable of it
-abbrev pub unwritten : FileRow → List (List (Item (List ℕ)))
-unwritten row =
-    (Code row.file.now ∷ []) ∷ (dash ∷ []) ∷ (dash ∷ []) ∷ (dash ∷ []) ∷ (dash ∷ []) ∷ (dash ∷ []) ∷ (dash ∷ [])
-    ∷ remark (option_copied row.proposer) row.is_unlisted ∷ []
-
--- one with a revision: its number, who wrote it and who approved it, its profile, how many bytes it has, and their digest
-abbrev pub written : FileRow → Head → List (List (Item (List ℕ)))
-written row head =
-    (Code row.file.now ∷ []) ∷ (number head.rev ∷ []) ∷ (author head ∷ []) ∷ (approver head.approver ∷ [])
-    ∷ (profile head ∷ []) ∷ (size head ∷ []) ∷ (Digest row.digest.now ∷ []) ∷ remark (option_copied row.proposer) row.is_unlisted ∷ []
-
-abbrev pub cells_with : FileRow → Option Head → List (List (Item (List ℕ)))
-cells_with row None = unwritten row
-cells_with row (Some head) = written row head
-
-abbrev pub cells : FileRow → List (List (Item (List ℕ)))
-cells row = cells_with row (option_copied row.head)
-
--- the files, folded if there are more than 40
-abbrev pub files : List FileRow → List ℕ
-files rows =
-    long_start 40 (length rows) (codes "file") (codes "files") ++ table_start frame (Said (codes "Files and their newest revisions") ∷ [])
-    ++ rows_html frame (map cells rows) ++ tag_html TableEnd ++ long_end 40 (length rows)
-
 -- a row of the table by value: a file, its newest revision and the digest of its text, who proposes another text, and whether it is the
 -- exports file of no file system that is listed
 pub record RowValue : Type 0 where
@@ -93,29 +84,38 @@ pub record RowValue : Type 0 where
   pub proposer : Option (List ℕ)
   pub is_unlisted : Bool
 
-abbrev pub row_value : FileRow → RowValue
-row_value row = record {
-  file = row.file.now;
-  head = option_copied row.head;
-  digest = row.digest.now;
-  proposer = option_copied row.proposer;
-  is_unlisted = row.is_unlisted;
+-- what is told of a file
+abbrev pub row_with : HeldFile → List ℕ → Bool → RowValue
+row_with file digest is_unlisted = record {
+  file = name_of file;
+  head = file.newest;
+  digest = digest;
+  proposer = option_map (λ proposal. proposal.author) file.proposal;
+  is_unlisted = is_unlisted;
 }
+
+abbrev pub row_value : FileRow → RowValue
+row_value row = row_with (file_of row.file) (string_bytes row.digest) row.is_unlisted
+
+-- the cells of a row: its name, what is told of its newest revision, if it has one, and what is remarkable
+abbrev pub cells : RowValue → List (List (Item (List ℕ)))
+cells row =
+    (Code row.file ∷ []) ∷ (revision row.head ∷ []) ∷ (author row.head ∷ []) ∷ (approver row.head ∷ []) ∷ (profile row.head ∷ [])
+    ∷ (size row.head ∷ []) ∷ (digest row.head row.digest ∷ []) ∷ remark row.proposer row.is_unlisted ∷ []
+
+-- the files, folded if there are more than 40
+abbrev pub files : List FileRow → List ℕ
+files rows =
+    long_start 40 (length rows) (codes "file") (codes "files") ++ table_start frame (Said (codes "Files and their newest revisions") ∷ [])
+    ++ rows_html frame (map (λ row. cells (row_value row)) rows) ++ tag_html TableEnd ++ long_end 40 (length rows)
 
 -- the digest of the text of the newest revision
 abbrev pub newest_digest : Option Revision → List ℕ
 newest_digest None = []
 newest_digest (Some revision) = text_digest revision.body
 
--- what is told of a file, where these file systems are listed
 abbrev pub row_of : List Mount → HeldFile → RowValue
-row_of table file = record {
-  file = name_of file;
-  head = file.newest;
-  digest = newest_digest file.newest;
-  proposer = option_map (λ proposal. proposal.author) file.proposal;
-  is_unlisted = not (is_known table (name_of file));
-}
+row_of table file = row_with file (newest_digest file.newest) (not (is_known table (name_of file)))
 
 -- These are the rows of the files that have a revision or a proposal, in their order.
 pub record AreFileRows (table : List Mount) (standing : Standing) (rows : List FileRow) : Type 0 where

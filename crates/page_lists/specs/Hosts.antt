@@ -7,7 +7,6 @@ use Rattle.desk_text.specs.Address.{is_dotted}
 use Rattle.desk_text.specs.Bytes.{is_ipv6}
 use Rattle.desk_netgroup.specs.GroupLine.{group_named}
 use Rattle.desk_netgroup.specs.declared.group_line.GroupLine.{GroupLine}
-use Rattle.page_html.specs.Ranges.{ends_of}
 use Rattle.desk_policy.specs.Policy.{Content}
 use Rattle.desk_policy.specs.declared.parsing.SiteTables.{SiteTables}
 use Rattle.page_html.specs.Blocks.{tag_html}
@@ -17,7 +16,7 @@ use Rattle.page_html.specs.Titles.{Said}
 use Rattle.page_html.specs.declared.blocks.Tag.TheVariants.{TableEnd}
 use Rattle.page_lists.specs.NameIndex.{written_names}
 use Rattle.page_lists.specs.Tables.{long_end, long_start}
-use Rattle.page_lists.specs.Uses.{NameValue, facts_of, mention_value, stands_for, written_by}
+use Rattle.page_lists.specs.Uses.{NameValue, facts_of, facts_value, stands_for, written_by}
 use Rattle.page_lists.specs.declared.hosts.HostKind.{HostKind}
 use Rattle.page_lists.specs.declared.hosts.HostKind.TheVariants.{Ipv6, Known, Unknown}
 use Rattle.page_lists.specs.declared.hosts.HostRow.{HostRow}
@@ -37,11 +36,28 @@ kind Known = Own (Words (codes "of the table hosts"))
 kind Ipv6 = Own (Words (codes "of IPv6: nobody"))
 kind Unknown = Own (Words (codes "no IPv4 address in the table hosts: nobody"))
 
+-- a row of the table by value: a name, what it is, and what is told of it
+pub record RowValue : Type 0 where
+  pub name : List ℕ
+  pub kind : HostKind
+  pub facts : NameValue
+
+-- what a name is that stands for so many addresses
+abbrev pub kind_of : List ℕ → ℕ → HostKind
+kind_of name addresses = if not (addresses == 0) then Known else if is_ipv6 name then Ipv6 else Unknown
+
+-- what is told of the name of a host
+abbrev pub row_with : List ℕ → NameValue → RowValue
+row_with name facts = record { name = name; kind = kind_of name facts.addresses; facts = facts }
+
+abbrev pub row_value : HostRow → RowValue
+row_value row = row_with row.name.now (facts_value row.facts)
+
 -- the name of a host: what it is, for how many addresses, and which, it stands, and the lines that write it
 abbrev pub host : HostRow → List (List (Item (List ℕ)))
 host row =
-    (Code row.name.now ∷ []) ∷ (kind row.kind ∷ []) ∷ (Own (Number row.addresses) ∷ []) ∷ (stands_for row.ranges.now ∷ [])
-    ∷ written_by row.uses.now ∷ []
+    (Code row.name.now ∷ []) ∷ (kind (row_value row).kind ∷ []) ∷ (Own (Number row.facts.addresses) ∷ [])
+    ∷ (stands_for row.facts.ranges.items ∷ []) ∷ written_by row.facts.uses.items ∷ []
 
 -- names of hosts, folded if there are more than 24
 abbrev pub some_hosts : List HostRow → List ℕ
@@ -53,19 +69,6 @@ some_hosts rows =
 abbrev pub hosts : List HostRow → List ℕ
 hosts rows = if length rows == 0 then [] else some_hosts rows
 
--- a row of the table by value: a name, what it is, and what is told of it
-pub record RowValue : Type 0 where
-  pub name : List ℕ
-  pub kind : HostKind
-  pub facts : NameValue
-
-abbrev pub row_value : HostRow → RowValue
-row_value row = record {
-  name = row.name.now;
-  kind = row.kind;
-  facts = record { addresses = row.addresses; ranges = map ends_of row.ranges.now; uses = map mention_value row.uses.now };
-}
-
 -- a written name is that of a host: not an address, and not a netgroup, for which a text with `:` is never taken
 abbrev pub is_host_name : List GroupLine → List ℕ → Bool
 is_host_name netgroups name = not (is_dotted name) && (is_ipv6 name || is_none (group_named netgroups name))
@@ -75,14 +78,6 @@ pub record AreHostNames (netgroups : List GroupLine) (written names : List (List
   pub ascending : AllPairs (λ name later. is_lt (slice_cmp nat_cmp name later) ≡ true) names
   pub each : (name : List ℕ) → Contains names name → Contains written name × (is_host_name netgroups name ≡ true)
   pub all : (name : List ℕ) → Contains written name → is_host_name netgroups name ≡ true → Contains names name
-
--- what a name is that stands for so many addresses
-abbrev pub kind_of : List ℕ → ℕ → HostKind
-kind_of name addresses = if not (addresses == 0) then Known else if is_ipv6 name then Ipv6 else Unknown
-
--- what is told of the name of a host
-abbrev pub row_with : List ℕ → NameValue → RowValue
-row_with name facts = record { name = name; kind = kind_of name facts.addresses; facts = facts }
 
 abbrev pub row_of : Content → SiteTables → List ℕ → RowValue
 row_of content tables name = row_with name (facts_of content tables name)

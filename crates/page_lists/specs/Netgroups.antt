@@ -5,7 +5,6 @@ use Rattle.desk_netgroup.specs.Walk.{hosts_in_order}
 use Rattle.desk_netgroup.specs.declared.group_line.GroupLine.{GroupLine}
 use Rattle.desk_netgroup.specs.declared.group_line.Member.{Member}
 use Rattle.desk_netgroup.specs.declared.group_line.Member.TheVariants.{Group, Host}
-use Rattle.page_html.specs.Ranges.{ends_of}
 use Rattle.desk_policy.specs.Policy.{Content}
 use Rattle.desk_policy.specs.declared.parsing.SiteTables.{SiteTables}
 use Rattle.page_html.specs.Blocks.{element_html, tag_html}
@@ -16,7 +15,7 @@ use Rattle.page_html.specs.declared.blocks.Element.TheVariants.{Paragraph}
 use Rattle.page_html.specs.declared.blocks.Tag.TheVariants.{TableEnd}
 use Rattle.page_lists.specs.Mentions.{some_or}
 use Rattle.page_lists.specs.Tables.{long_end, long_start, number}
-use Rattle.page_lists.specs.Uses.{MentionValue, NameValue, OfGroup, OfHost, facts_of, mention_value, stands_for, written_by}
+use Rattle.page_lists.specs.Uses.{MentionValue, NameValue, OfGroup, OfHost, facts_of, facts_value, mention_value, stands_for, written_by}
 use Rattle.page_lists.specs.declared.mentions.Mention.{Mention}
 use Rattle.page_lists.specs.declared.netgroups.NetgroupRow.{NetgroupRow}
 
@@ -38,8 +37,8 @@ netgroup_frame = record {
 -- and the lines that write it
 abbrev pub netgroup : NetgroupRow → List (List (Item (List ℕ)))
 netgroup row =
-    (Code row.name.now ∷ []) ∷ (number row.line ∷ []) ∷ members_of row.members.now ∷ (Own (Number row.hosts) ∷ [])
-    ∷ (Own (Number row.addresses) ∷ []) ∷ (stands_for row.ranges.now ∷ []) ∷ written_by row.uses.now ∷ []
+    (Code row.group.now.name ∷ []) ∷ (number row.group.now.line ∷ []) ∷ members_of row.members.items ∷ (Own (Number row.hosts) ∷ [])
+    ∷ (Own (Number row.facts.addresses) ∷ []) ∷ (stands_for row.facts.ranges.items ∷ []) ∷ written_by row.facts.uses.items ∷ []
 
 -- netgroups, folded if there are more than 24
 abbrev pub some_netgroups : List NetgroupRow → List ℕ
@@ -64,11 +63,11 @@ pub record RowValue : Type 0 where
 
 abbrev pub row_value : NetgroupRow → RowValue
 row_value row = record {
-  name = row.name.now;
-  line = row.line;
-  members = map mention_value row.members.now;
+  name = row.group.now.name;
+  line = row.group.now.line;
+  members = map mention_value row.members.items;
   hosts = row.hosts;
-  facts = record { addresses = row.addresses; ranges = map ends_of row.ranges.now; uses = map mention_value row.uses.now };
+  facts = facts_value row.facts;
 }
 
 abbrev pub member_value : Member → MentionValue

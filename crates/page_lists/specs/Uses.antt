@@ -3,7 +3,7 @@ use Rattle.std.specs.Prelude.{ℕ, ◌==◌, List, [], ◌∷◌, Option, Some, 
 use Rattle.std.specs.Option.{option_map}
 use Rattle.desk_text.specs.Path.{path_text}
 use Rattle.desk_tables.specs.declared.filesystems.Mount.{Mount}
-use Rattle.page_html.specs.Ranges.{Ends}
+use Rattle.page_html.specs.Ranges.{Ends, ends_of}
 use Rattle.page_html.specs.declared.ranges.Span.{Span}
 use Rattle.desk_policy.specs.Names.{addresses_of_names}
 use Rattle.desk_policy.specs.Policy.{Content}
@@ -14,6 +14,7 @@ use Rattle.page_lists.specs.NameIndex.{WrittenValue, lines_with}
 use Rattle.page_lists.specs.Ranges.{ranges_of}
 use Rattle.page_lists.specs.declared.mentions.Mention.{Mention}
 use Rattle.page_lists.specs.declared.mentions.Mention.TheVariants.{Group, Host, Line, System}
+use Rattle.page_lists.specs.declared.uses.NameFacts.{NameFacts}
 
 -- what a cell names, by value: a file system, a line of one, a host, or a netgroup
 pub data MentionValue : Type 0 where
@@ -53,6 +54,9 @@ pub record NameValue : Type 0 where
   pub addresses : ℕ
   pub ranges : List Ends
   pub uses : List MentionValue
+
+abbrev pub facts_value : NameFacts → NameValue
+facts_value facts = record { addresses = facts.addresses; ranges = map ends_of facts.ranges.items; uses = map mention_value facts.uses.items }
 
 abbrev pub facts_of : Content → SiteTables → List ℕ → NameValue
 facts_of content tables name = record {

@@ -8,7 +8,6 @@ ghost use Rattle.desk_core.specs.Standing.{standing_in};
 ghost use Rattle.page_html.specs.Parts.{item_of};
 ghost use Rattle.page_html.specs.Tables.{row_html, rows_html};
 ghost use Rattle.page_lists.specs.Files as spec;
-ghost use Rattle.page_lists.specs.PrivateFiles.{digested_row};
 
 use crate::digests::text_digest;
 use crate::tables::{number_of, push_long_end, push_long_start};
@@ -38,23 +37,13 @@ const FILES: Frame = Frame {
     ],
 };
 
-/// A file: its newest revision, if it has one, with the digest of its text; who proposes another text, if somebody does; and whether it is
-/// the exports file of no file system that is listed.
-#[derive(Clone, Copy)]
-pub struct FileRow<'a> {
-    pub file: &'a str,
-    pub head: Option<&'a Head>,
-    pub digest: &'a str,
-    pub proposer: Option<&'a Text>,
-    pub is_unlisted: bool,
-}
-
-/// A file, with the digest of the text of its newest revision, and whether it is the exports file of no listed file system.
+/// A file that has a revision or a proposal, with the digest of the text of its newest revision, and whether it is the exports file of no
+/// file system that is listed.
 #[derive(Drop)]
-struct DigestedFile<'a> {
-    file: HeldFile<'a>,
-    digest: String,
-    is_unlisted: bool,
+pub struct FileRow<'a> {
+    pub file: HeldFile<'a>,
+    pub digest: String,
+    pub is_unlisted: bool,
 }
 
 /// Adds the table of the files that have one of these newest revisions or proposals, where these file systems are listed.
@@ -68,37 +57,36 @@ pub fn push_files_of(
     ensures { OnOk result (spec.AddsFiles filesystems.now (standing_in heads.now proposals.now) (string_bytes page.old) (string_bytes page.new)) }
 {
     let files = held_files(alloc, heads, proposals)?;
-    let digested = digested_files(alloc, filesystems, files.as_slice())?;
-    let rows = file_rows(alloc, digested.as_slice())?;
+    let rows = file_rows(alloc, filesystems, files.as_slice())?;
     push_files(alloc, rows.as_slice(), page)
 }
 
-/// Makes the digests of the texts of files.
-fn digested_files<'a>(
+/// Makes the rows of files.
+fn file_rows<'a>(
     alloc: Global,
     filesystems: &FileSystems,
     files: &[HeldFile<'a>],
-) -> Result<Vec<DigestedFile<'a>>, AllocError>
-    ensures { IfOk result (λ digested. map digested_row digested.items ≡ map (spec.row_of filesystems.now) (map file_of files.now)) }
+) -> Result<Vec<FileRow<'a>>, AllocError>
+    ensures { IfOk result (λ rows. map spec.row_value rows.items ≡ map (spec.row_of filesystems.now) (map file_of files.now)) }
 {
-    let mut digested = Vec::new(alloc);
+    let mut rows = Vec::new(alloc);
     for file in files {
-        digested.push(digested_file(alloc, filesystems, *file)?)?;
+        rows.push(file_row(alloc, filesystems, *file)?)?;
     }
-    Ok(digested)
+    Ok(rows)
 }
 
-/// Makes the digest of the text of a file.
-fn digested_file<'a>(
+/// Makes the row of a file.
+fn file_row<'a>(
     alloc: Global,
     filesystems: &FileSystems,
     file: HeldFile<'a>,
-) -> Result<DigestedFile<'a>, AllocError>
-    ensures { IfOk result (λ digested. digested_row digested ≡ spec.row_of filesystems.now (file_of file.entry)) }
+) -> Result<FileRow<'a>, AllocError>
+    ensures { IfOk result (λ row. spec.row_value row ≡ spec.row_of filesystems.now (file_of file.entry)) }
 {
     let digest = newest_digest(alloc, file.newest)?;
     let is_unlisted = !is_known(filesystems, file.name());
-    Ok(DigestedFile {
+    Ok(FileRow {
         file,
         digest,
         is_unlisted,
@@ -112,43 +100,6 @@ fn newest_digest(alloc: Global, newest: Option<&Head>) -> Result<String, AllocEr
     match newest {
         None => Ok(String::new(alloc)),
         Some(head) => text_digest(alloc, head.body.as_str()),
-    }
-}
-
-/// Makes the rows of files.
-fn file_rows<'b>(
-    alloc: Global,
-    files: &'b [DigestedFile<'_>],
-) -> Result<Vec<FileRow<'b>>, AllocError>
-    ensures { IfOk result (λ rows. map spec.row_value rows.items ≡ map digested_row files.now) }
-{
-    let mut rows = Vec::new(alloc);
-    for file in files {
-        rows.push(file_row(file))?;
-    }
-    Ok(rows)
-}
-
-/// Makes the row of a file.
-fn file_row<'b>(digested: &'b DigestedFile<'_>) -> FileRow<'b>
-    ensures { spec.row_value result ≡ digested_row digested.now }
-{
-    FileRow {
-        file: digested.file.name(),
-        head: digested.file.newest,
-        digest: digested.digest.as_str(),
-        proposer: proposer_of(digested.file.proposal),
-        is_unlisted: digested.is_unlisted,
-    }
-}
-
-/// Lends the author of a proposal.
-fn proposer_of(proposal: Option<&Proposal>) -> Option<&Text>
-    ensures { option_copied result ≡ option_map (λ one. one.author) (option_copied proposal.entry) }
-{
-    match proposal {
-        None => None,
-        Some(proposal) => Some(&proposal.author),
     }
 }
 
@@ -173,7 +124,7 @@ pub fn push_files(alloc: Global, rows: &[FileRow<'_>], page: &mut String) -> Res
 /// Adds rows.
 #[tactic(auto, unfolding(page_html::specs::Tables::rows_html))]
 fn push_rows(alloc: Global, rows: &[FileRow<'_>], page: &mut String) -> Result<(), AllocError>
-    ensures { OnOk result (string_bytes page.new ≡ string_bytes page.old ++ rows_html spec.frame (map spec.cells rows.now)) }
+    ensures { OnOk result (string_bytes page.new ≡ string_bytes page.old ++ rows_html spec.frame (map (λ row. spec.cells (spec.row_value row)) rows.now)) }
 {
     for row in rows {
         push_file(alloc, row, page)?;
@@ -183,30 +134,25 @@ fn push_rows(alloc: Global, rows: &[FileRow<'_>], page: &mut String) -> Result<(
 
 /// Adds a row.
 fn push_file(alloc: Global, row: &FileRow<'_>, page: &mut String) -> Result<(), AllocError>
-    ensures { OnOk result (string_bytes page.new ≡ string_bytes page.old ++ row_html spec.frame (spec.cells row.now)) }
+    ensures { OnOk result (string_bytes page.new ≡ string_bytes page.old ++ row_html spec.frame (spec.cells (spec.row_value row.now))) }
 {
-    match row.head {
-        None => push_unwritten(alloc, row, page),
-        Some(head) => push_written(alloc, row, head, page),
-    }
-}
-
-/// Adds the row of a file that has no revision.
-fn push_unwritten(alloc: Global, row: &FileRow<'_>, page: &mut String) -> Result<(), AllocError>
-    ensures { OnOk result (string_bytes page.new ≡ string_bytes page.old ++ row_html spec.frame (spec.unwritten row.now)) }
-{
-    let remark = remark_of(row);
-    let cells: [&[Part<'_>]; 8] = [
-        &[Part::Code(row.file)],
-        &[dash()],
-        &[dash()],
-        &[dash()],
-        &[dash()],
-        &[dash()],
-        &[dash()],
-        &remark,
-    ];
-    push_row(alloc, &FILES, &cells, page)
+    let newest = row.file.newest;
+    let remark = remark_of(row.file.proposal, row.is_unlisted);
+    push_row(
+        alloc,
+        &FILES,
+        &[
+            &[Part::Code(row.file.name())],
+            &[revision_of(newest)],
+            &[author_of(newest)],
+            &[approver_of(newest)],
+            &[profile_of(newest)],
+            &[size_of(newest)],
+            &[digest_of(newest, row.digest.as_str())],
+            &remark,
+        ],
+        page,
+    )
 }
 
 /// Returns what stands for nothing.
@@ -216,75 +162,89 @@ fn dash<'a>() -> Part<'a>
     Part::Words("-")
 }
 
-/// Adds the row of a file that has one.
-fn push_written<'a>(
-    alloc: Global,
-    row: &FileRow<'a>,
-    head: &'a Head,
-    page: &mut String,
-) -> Result<(), AllocError>
-    ensures { OnOk result (string_bytes page.new ≡ string_bytes page.old ++ row_html spec.frame (spec.written row.now head.now)) }
+/// Returns the number of a revision.
+fn revision_of<'a>(newest: Option<&'a Head>) -> Part<'a>
+    ensures { item_of result ≡ spec.revision (option_copied newest.entry) }
 {
-    let remark = remark_of(row);
-    let cells: [&[Part<'_>]; 8] = [
-        &[Part::Code(row.file)],
-        &[number_of(head.rev)],
-        &[author_of(head)],
-        &[approver_of(head)],
-        &[profile_of(head)],
-        &[size_of(head)],
-        &[Part::Digest(row.digest)],
-        &remark,
-    ];
-    push_row(alloc, &FILES, &cells, page)
+    match newest {
+        None => dash(),
+        Some(head) => number_of(head.rev),
+    }
 }
 
-/// Returns who wrote a revision.
-fn author_of<'a>(head: &'a Head) -> Part<'a>
-    ensures { item_of result ≡ spec.author head.now }
+/// Returns who wrote it.
+fn author_of<'a>(newest: Option<&'a Head>) -> Part<'a>
+    ensures { item_of result ≡ spec.author (option_copied newest.entry) }
 {
-    Part::Code(head.author.as_str())
+    match newest {
+        None => dash(),
+        Some(head) => Part::Code(head.author.as_str()),
+    }
 }
 
-/// Returns who approved a revision, if somebody did.
-fn approver_of<'a>(head: &'a Head) -> Part<'a>
-    ensures { item_of result ≡ spec.approver head.now.approver }
+/// Returns who approved it, if somebody did.
+fn approver_of<'a>(newest: Option<&'a Head>) -> Part<'a>
+    ensures { item_of result ≡ spec.approver (option_copied newest.entry) }
 {
-    match &head.approver {
+    match newest {
+        None => dash(),
+        Some(head) => name_or_dash(head.approver.as_ref()),
+    }
+}
+
+/// Returns a name, if there is one.
+fn name_or_dash<'a>(name: Option<&'a Text>) -> Part<'a>
+    ensures { item_of result ≡ spec.name_or_dash (option_copied name.entry) }
+{
+    match name {
         None => dash(),
         Some(name) => Part::Code(name.as_str()),
     }
 }
 
-/// Returns the profile of an exports file.
-fn profile_of<'a>(head: &'a Head) -> Part<'a>
-    ensures { item_of result ≡ spec.profile head.now }
+/// Returns the profile by which it is read, if it is that of an exports file.
+fn profile_of<'a>(newest: Option<&'a Head>) -> Part<'a>
+    ensures { item_of result ≡ spec.profile (option_copied newest.entry) }
 {
-    if SiteFile::is_name(head.file.as_str()) {
-        dash()
-    } else {
-        Part::Digits(head.profile.number())
+    match newest {
+        Some(head) if !SiteFile::is_name(head.file.as_str()) => {
+            Part::Digits(head.profile.number())
+        }
+        _ => dash(),
     }
 }
 
-/// Returns how many bytes the text of a revision has.
-fn size_of<'a>(head: &'a Head) -> Part<'a>
-    ensures { item_of result ≡ spec.size head.now }
+/// Returns how many bytes its text has.
+fn size_of<'a>(newest: Option<&'a Head>) -> Part<'a>
+    ensures { item_of result ≡ spec.size (option_copied newest.entry) }
 {
-    Part::Number(head.body.as_str().len() as u64)
+    match newest {
+        None => dash(),
+        Some(head) => Part::Number(head.body.as_str().len() as u64),
+    }
+}
+
+/// Returns the digest of its text.
+fn digest_of<'a>(newest: Option<&'a Head>, digest: &'a str) -> Part<'a>
+    ensures { item_of result ≡ spec.digest (option_copied newest.entry) digest.now }
+{
+    match newest {
+        None => dash(),
+        Some(_) => Part::Digest(digest),
+    }
 }
 
 /// Returns what is remarkable of a file.
-fn remark_of<'a>(row: &FileRow<'a>) -> [Part<'a>; 3]
-    ensures { map item_of result ≡ spec.remark (option_copied row.now.proposer) row.now.is_unlisted }
+fn remark_of<'a>(proposal: Option<&'a Proposal>, is_unlisted: bool) -> [Part<'a>; 3]
+    ensures { map item_of result ≡ spec.remark (option_map (λ one. one.author) (option_copied proposal.entry)) is_unlisted }
 {
-    match row.proposer {
+    match proposal {
         None => [
-            unlisted_or(row.is_unlisted, "unlisted", "-"),
+            unlisted_or(is_unlisted, "unlisted", "-"),
             Part::Nothing,
             Part::Nothing,
         ],
-        Some(name) => proposed_by(name, row.is_unlisted),
+        Some(proposal) => proposed_by(&proposal.author, is_unlisted),
     }
 }
 

@@ -5,17 +5,16 @@ ghost use Rattle.std.specs.String.{string_bytes};
 ghost use Rattle.page_html.specs.Parts.{item_of};
 ghost use Rattle.page_html.specs.Tables.{row_html, rows_html};
 ghost use Rattle.page_lists.specs.Hosts as spec;
-ghost use Rattle.page_lists.specs.PrivateHosts.{facts_row, host_if};
+ghost use Rattle.page_lists.specs.PrivateHosts.{host_if};
 ghost use Rattle.page_lists.specs.NameIndex.{IsIndexOf, name_key};
 
-use crate::mentions::{Mention, some_or};
 use crate::name_index::WrittenName;
-use crate::tables::{five_cells, push_long_end, push_long_start};
-use crate::uses::{MOST_USES, NameFacts, facts_of, stands_for};
+use crate::tables::{push_long_end, push_long_start};
+use crate::uses::{NameFacts, facts_of, stands_for, uses_or};
 use desk_netgroup::Netgroups;
 use desk_policy::{Policy, SiteTables};
 use desk_text::{is_dotted, is_ipv6};
-use page_html::{Column, Frame, Part, Span, Tag, Title, push_row, push_table_start, push_tag};
+use page_html::{Column, Frame, Part, Tag, Title, push_row, push_table_start, push_tag};
 use std::alloc::{AllocError, Global};
 
 /// More rows than these are folded.
@@ -45,21 +44,11 @@ pub enum HostKind {
     Unknown,
 }
 
-/// The name of a host that lines write: what it is, the addresses that it stands for, how many they are, and the lines that write it.
-#[derive(Clone, Copy)]
+/// The name of a host that lines write, and what it stands for.
+#[derive(Drop)]
 pub struct HostRow<'a> {
     pub name: &'a str,
-    pub kind: HostKind,
-    pub addresses: u64,
-    pub ranges: &'a [Span],
-    pub uses: &'a [Mention<'a>],
-}
-
-/// The name of a host, and what it stands for.
-#[derive(Drop)]
-struct HostFacts<'a> {
-    name: &'a str,
-    facts: NameFacts<'a>,
+    pub facts: NameFacts<'a>,
 }
 
 /// Adds the table of the names of hosts that lines write, if they write any, given the index of the names that lines write.
@@ -74,9 +63,7 @@ pub fn push_hosts_of<'a>(
     ensures { OnOk result (spec.AddsHosts policy.now tables.now (string_bytes page.old) (string_bytes page.new)) }
 {
     let names = names_of_hosts(alloc, &tables.netgroups, index)?;
-    let hosts = hosts_of(alloc, policy, tables, index, names.as_slice())?;
-    let found = hosts.as_slice();
-    let rows = host_rows(alloc, found)?;
+    let rows = host_rows(alloc, policy, tables, index, names.as_slice())?;
     push_hosts(alloc, rows.as_slice(), page)
 }
 
@@ -130,61 +117,37 @@ fn is_host_name(netgroups: &Netgroups, name: &str) -> bool
     !is_dotted(name) && (is_ipv6(name) || netgroups.group(name).is_none())
 }
 
-/// Finds what is told of the names of hosts.
-fn hosts_of<'a>(
+/// Makes the rows of names of hosts.
+fn host_rows<'a>(
     alloc: Global,
     policy: &'a Policy,
     tables: &SiteTables,
     index: &[WrittenName<'_>],
     names: &[&'a str],
-) -> Result<Vec<HostFacts<'a>>, AllocError>
+) -> Result<Vec<HostRow<'a>>, AllocError>
     requires { IsIndexOf policy.now index.now }
-    ensures { IfOk result (λ hosts. map facts_row hosts.items ≡ map (spec.row_of policy.now tables.now) (map (λ name. name.now) names.now)) }
-{
-    let mut hosts = Vec::new(alloc);
-    for name in names {
-        hosts.push(host_facts(alloc, policy, tables, index, name)?)?;
-    }
-    Ok(hosts)
-}
-
-/// Finds what is told of the name of a host.
-fn host_facts<'a>(
-    alloc: Global,
-    policy: &'a Policy,
-    tables: &SiteTables,
-    index: &[WrittenName<'_>],
-    name: &'a str,
-) -> Result<HostFacts<'a>, AllocError>
-    requires { IsIndexOf policy.now index.now }
-    ensures { IfOk result (λ host. facts_row host ≡ spec.row_of policy.now tables.now name.now) }
-{
-    let facts = facts_of(alloc, policy, tables, index, name)?;
-    Ok(HostFacts { name, facts })
-}
-
-/// Makes the rows of names of hosts.
-fn host_rows<'b>(alloc: Global, hosts: &'b [HostFacts<'_>]) -> Result<Vec<HostRow<'b>>, AllocError>
-    ensures { IfOk result (λ rows. map spec.row_value rows.items ≡ map facts_row hosts.now) }
+    ensures { IfOk result (λ rows. map spec.row_value rows.items ≡ map (spec.row_of policy.now tables.now) (map (λ name. name.now) names.now)) }
 {
     let mut rows = Vec::new(alloc);
-    for host in hosts {
-        rows.push(host_row(host))?;
+    for name in names {
+        rows.push(host_row(alloc, policy, tables, index, name)?)?;
     }
     Ok(rows)
 }
 
 /// Makes the row of the name of a host.
-fn host_row<'b>(host: &'b HostFacts<'_>) -> HostRow<'b>
-    ensures { spec.row_value result ≡ facts_row host.now }
+fn host_row<'a>(
+    alloc: Global,
+    policy: &'a Policy,
+    tables: &SiteTables,
+    index: &[WrittenName<'_>],
+    name: &'a str,
+) -> Result<HostRow<'a>, AllocError>
+    requires { IsIndexOf policy.now index.now }
+    ensures { IfOk result (λ row. spec.row_value row ≡ spec.row_of policy.now tables.now name.now) }
 {
-    HostRow {
-        name: host.name,
-        kind: kind_of(host.name, host.facts.addresses),
-        addresses: host.facts.addresses,
-        ranges: host.facts.ranges.as_slice(),
-        uses: host.facts.uses.as_slice(),
-    }
+    let facts = facts_of(alloc, policy, tables, index, name)?;
+    Ok(HostRow { name, facts })
 }
 
 /// Returns what the name of a host is that stands for so many addresses.
@@ -244,15 +207,15 @@ fn push_host_rows(alloc: Global, rows: &[HostRow<'_>], page: &mut String) -> Res
 fn push_host(alloc: Global, row: &HostRow<'_>, page: &mut String) -> Result<(), AllocError>
     ensures { OnOk result (string_bytes page.new ≡ string_bytes page.old ++ row_html spec.host_frame (spec.host row.now)) }
 {
-    let uses = some_or(alloc, row.uses, MOST_USES, Part::Zero("no line"))?;
+    let uses = uses_or(alloc, &row.facts)?;
     push_row(
         alloc,
         &HOSTS,
-        &five_cells(
+        &page_html::five_cells(
             &[Part::Code(row.name)],
-            &[kind_words(row.kind)],
-            &[Part::Number(row.addresses)],
-            &[stands_for(row.ranges)],
+            &[kind_words(kind_of(row.name, row.facts.addresses))],
+            &[Part::Number(row.facts.addresses)],
+            &[stands_for(row.facts.ranges.as_slice())],
             uses.as_slice(),
         ),
         page,

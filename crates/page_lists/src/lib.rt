@@ -23,7 +23,7 @@ mod ranges;
 pub mod reading;
 pub mod shell;
 pub mod tables;
-mod uses;
+pub mod uses;
 pub mod warnings;
 
 pub use digests::text_digest;
@@ -36,5 +36,5 @@ pub use name_index::{WrittenName, index_of_names};
 pub use netgroups::{NetgroupRow, push_netgroups, push_netgroups_of};
 pub use reading::push_how_to_read;
 pub use shell::shell_word;
-pub use tables::five_cells;
+pub use uses::NameFacts;
 pub use warnings::{WarningRow, push_warnings, push_warnings_of};

@@ -4,19 +4,17 @@ ghost use Rattle.std.specs.Prelude.{◌≡◌, ◌++◌, IfOk, OnOk, map};
 ghost use Rattle.std.specs.String.{string_bytes};
 ghost use Rattle.page_html.specs.Tables.{row_html, rows_html};
 ghost use Rattle.page_lists.specs.Netgroups as spec;
-ghost use Rattle.page_lists.specs.PrivateNetgroups.{facts_row};
 ghost use Rattle.page_lists.specs.Uses.{mention_value};
 ghost use Rattle.page_lists.specs.NameIndex.{IsIndexOf};
 
 use crate::mentions::{Mention, some_or};
 use crate::name_index::WrittenName;
-use crate::tables::{number_of, push_long_end, push_long_start, seven_cells};
-use crate::uses::{MOST_USES, NameFacts, facts_of, stands_for};
+use crate::tables::{number_of, push_long_end, push_long_start};
+use crate::uses::{NameFacts, facts_of, stands_for, uses_or};
 use desk_netgroup::{GroupLine, Member, Netgroups};
 use desk_policy::{Policy, SiteTables};
 use page_html::{
-    Column, Element, Frame, Part, Span, Tag, Title, push_element, push_row, push_table_start,
-    push_tag,
+    Column, Element, Frame, Part, Tag, Title, push_element, push_row, push_table_start, push_tag,
 };
 use std::alloc::{AllocError, Global};
 
@@ -41,26 +39,13 @@ const NETGROUPS: Frame = Frame {
     ],
 };
 
-/// A netgroup: the number of its line, its members as written, how many names of hosts are in it, the addresses that it stands for, how
-/// many they are, and the lines that write it.
-#[derive(Clone, Copy)]
-pub struct NetgroupRow<'a> {
-    pub name: &'a str,
-    pub line: u32,
-    pub members: &'a [Mention<'a>],
-    pub hosts: u64,
-    pub addresses: u64,
-    pub ranges: &'a [Span],
-    pub uses: &'a [Mention<'a>],
-}
-
-/// A netgroup: its members, how many names of hosts are in it, and what its name stands for.
+/// A netgroup: its members as written, how many names of hosts are in it, and what its name stands for.
 #[derive(Drop)]
-struct GroupFacts<'a> {
-    group: &'a GroupLine,
-    members: Vec<Mention<'a>>,
-    hosts: u64,
-    facts: NameFacts<'a>,
+pub struct NetgroupRow<'a> {
+    pub group: &'a GroupLine,
+    pub members: Vec<Mention<'a>>,
+    pub hosts: u64,
+    pub facts: NameFacts<'a>,
 }
 
 /// Adds the table of netgroups, given the index of the names that lines write.
@@ -74,44 +59,42 @@ pub fn push_netgroups_of<'a>(
     requires { IsIndexOf policy.now index.now }
     ensures { OnOk result (spec.AddsNetgroups policy.now tables.now (string_bytes page.old) (string_bytes page.new)) }
 {
-    let groups = groups_of(alloc, policy, tables, index)?;
-    let found = groups.as_slice();
-    let rows = group_rows(alloc, found)?;
+    let rows = group_rows(alloc, policy, tables, index)?;
     push_netgroups(alloc, rows.as_slice(), page)
 }
 
-/// Finds what is told of the netgroups, in the order of their lines.
-fn groups_of<'a>(
+/// Makes the rows of the netgroups, in the order of their lines.
+fn group_rows<'a>(
     alloc: Global,
     policy: &'a Policy,
     tables: &'a SiteTables,
     index: &[WrittenName<'_>],
-) -> Result<Vec<GroupFacts<'a>>, AllocError>
+) -> Result<Vec<NetgroupRow<'a>>, AllocError>
     requires { IsIndexOf policy.now index.now }
-    ensures { IfOk result (λ groups. map facts_row groups.items ≡ map (spec.row_of policy.now tables.now) tables.now.netgroups) }
+    ensures { IfOk result (λ rows. map spec.row_value rows.items ≡ map (spec.row_of policy.now tables.now) tables.now.netgroups) }
 {
-    let mut groups = Vec::new(alloc);
+    let mut rows = Vec::new(alloc);
     for group in tables.netgroups.lines() {
-        groups.push(group_facts(alloc, policy, tables, index, group)?)?;
+        rows.push(group_row(alloc, policy, tables, index, group)?)?;
     }
-    Ok(groups)
+    Ok(rows)
 }
 
-/// Finds what is told of a netgroup.
-fn group_facts<'a>(
+/// Makes the row of a netgroup.
+fn group_row<'a>(
     alloc: Global,
     policy: &'a Policy,
     tables: &SiteTables,
     index: &[WrittenName<'_>],
     group: &'a GroupLine,
-) -> Result<GroupFacts<'a>, AllocError>
+) -> Result<NetgroupRow<'a>, AllocError>
     requires { IsIndexOf policy.now index.now }
-    ensures { IfOk result (λ facts. facts_row facts ≡ spec.row_of policy.now tables.now group.now) }
+    ensures { IfOk result (λ row. spec.row_value row ≡ spec.row_of policy.now tables.now group.now) }
 {
     let hosts = count_hosts(alloc, &tables.netgroups, group.name.as_str())?;
     let members = members_of(alloc, group.members.as_slice())?;
     let facts = facts_of(alloc, policy, tables, index, group.name.as_str())?;
-    Ok(GroupFacts {
+    Ok(NetgroupRow {
         group,
         members,
         hosts,
@@ -147,35 +130,6 @@ fn member_mention(member: &Member) -> Mention<'_>
     match member {
         Member::Host(name) => Mention::Host(name.as_str()),
         Member::Group(name) => Mention::Group(name.as_str()),
-    }
-}
-
-/// Makes the rows of netgroups.
-fn group_rows<'b>(
-    alloc: Global,
-    groups: &'b [GroupFacts<'_>],
-) -> Result<Vec<NetgroupRow<'b>>, AllocError>
-    ensures { IfOk result (λ rows. map spec.row_value rows.items ≡ map facts_row groups.now) }
-{
-    let mut rows = Vec::new(alloc);
-    for group in groups {
-        rows.push(group_row(group))?;
-    }
-    Ok(rows)
-}
-
-/// Makes the row of a netgroup.
-fn group_row<'b>(group: &'b GroupFacts<'_>) -> NetgroupRow<'b>
-    ensures { spec.row_value result ≡ facts_row group.now }
-{
-    NetgroupRow {
-        name: group.group.name.as_str(),
-        line: group.group.line,
-        members: group.members.as_slice(),
-        hosts: group.hosts,
-        addresses: group.facts.addresses,
-        ranges: group.facts.ranges.as_slice(),
-        uses: group.facts.uses.as_slice(),
     }
 }
 
@@ -246,18 +200,23 @@ fn push_netgroup_rows(
 fn push_netgroup(alloc: Global, row: &NetgroupRow<'_>, page: &mut String) -> Result<(), AllocError>
     ensures { OnOk result (string_bytes page.new ≡ string_bytes page.old ++ row_html spec.netgroup_frame (spec.netgroup row.now)) }
 {
-    let members = some_or(alloc, row.members, MOST_MEMBERS, Part::Words("-"))?;
-    let uses = some_or(alloc, row.uses, MOST_USES, Part::Zero("no line"))?;
+    let members = some_or(
+        alloc,
+        row.members.as_slice(),
+        MOST_MEMBERS,
+        Part::Words("-"),
+    )?;
+    let uses = uses_or(alloc, &row.facts)?;
     push_row(
         alloc,
         &NETGROUPS,
-        &seven_cells(
-            &[Part::Code(row.name)],
-            &[number_of(row.line)],
+        &page_html::seven_cells(
+            &[Part::Code(row.group.name.as_str())],
+            &[number_of(row.group.line)],
             members.as_slice(),
             &[Part::Number(row.hosts)],
-            &[Part::Number(row.addresses)],
-            &[stands_for(row.ranges)],
+            &[Part::Number(row.facts.addresses)],
+            &[stands_for(row.facts.ranges.as_slice())],
             uses.as_slice(),
         ),
         page,

@@ -1,8 +1,8 @@
-//! What the tables of the lists have alike: the fold around a long one, and cells.
+//! What the tables of the lists have alike: the fold around a long one, and numbers.
 
-ghost use Rattle.std.specs.Prelude.{◌≡◌, ◌++◌, ◌∷◌, [], OnOk, map};
+ghost use Rattle.std.specs.Prelude.{◌≡◌, ◌++◌, OnOk};
 ghost use Rattle.std.specs.String.{string_bytes};
-ghost use Rattle.page_html.specs.Parts.{item_of, items_of};
+ghost use Rattle.page_html.specs.Parts.{item_of};
 ghost use Rattle.page_lists.specs.Tables as spec;
 
 use page_html::{Element, Part, Tag, push_element, push_tag};
@@ -45,35 +45,4 @@ pub(crate) fn number_of<'a>(number: u32) -> Part<'a>
     ensures { item_of result ≡ spec.number number }
 {
     Part::Number(u64::from(number))
-}
-
-/// Makes a row of five cells.
-pub fn five_cells<'a>(
-    first: &'a [Part<'a>],
-    second: &'a [Part<'a>],
-    third: &'a [Part<'a>],
-    fourth: &'a [Part<'a>],
-    fifth: &'a [Part<'a>],
-) -> [&'a [Part<'a>]; 5]
-    ensures { map (λ cell. items_of cell.now) result
-        ≡ items_of first.now ∷ items_of second.now ∷ items_of third.now ∷ items_of fourth.now ∷ items_of fifth.now ∷ [] }
-{
-    [first, second, third, fourth, fifth]
-}
-
-/// Makes a row of seven cells.
-pub(crate) fn seven_cells<'a>(
-    first: &'a [Part<'a>],
-    second: &'a [Part<'a>],
-    third: &'a [Part<'a>],
-    fourth: &'a [Part<'a>],
-    fifth: &'a [Part<'a>],
-    sixth: &'a [Part<'a>],
-    seventh: &'a [Part<'a>],
-) -> [&'a [Part<'a>]; 7]
-    ensures { map (λ cell. items_of cell.now) result
-        ≡ items_of first.now ∷ items_of second.now ∷ items_of third.now ∷ items_of fourth.now ∷ items_of fifth.now ∷ items_of sixth.now
-        ∷ items_of seventh.now ∷ [] }
-{
-    [first, second, third, fourth, fifth, sixth, seventh]
 }

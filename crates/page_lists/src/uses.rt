@@ -5,10 +5,9 @@ ghost use Rattle.std.specs.List.{dedup};
 ghost use Rattle.page_html.specs.Parts.{item_of};
 ghost use Rattle.page_lists.specs.Uses as spec;
 ghost use Rattle.page_lists.specs.Uses.{mention_value};
-ghost use Rattle.page_lists.specs.PrivateUses.{facts_value};
 ghost use Rattle.page_lists.specs.NameIndex.{AreByName, IsIndexOf, is_of_name, same_line, written_value};
 
-use crate::mentions::Mention;
+use crate::mentions::{Mention, some_or};
 use crate::name_index::{WrittenName, lines_with};
 use crate::ranges::ranges_of;
 use desk_policy::{Policy, SiteTables, addresses_of};
@@ -17,11 +16,11 @@ use page_html::{Part, Span};
 use std::alloc::{AllocError, Global};
 
 /// How many lines that write a name a cell names.
-pub(crate) const MOST_USES: usize = 6;
+const MOST_USES: usize = 6;
 
 /// For how many addresses a name stands, and in which ranges; and the lines that write it.
 #[derive(Drop)]
-pub(crate) struct NameFacts<'a> {
+pub struct NameFacts<'a> {
     pub addresses: u64,
     pub ranges: Vec<Span>,
     pub uses: Vec<Mention<'a>>,
@@ -36,7 +35,7 @@ pub(crate) fn facts_of<'a>(
     name: &str,
 ) -> Result<NameFacts<'a>, AllocError>
     requires { IsIndexOf policy.now index.now }
-    ensures { IfOk result (λ facts. facts_value facts ≡ spec.facts_of policy.now tables.now name.now) }
+    ensures { IfOk result (λ facts. spec.facts_value facts ≡ spec.facts_of policy.now tables.now name.now) }
 {
     let uses = uses_of(alloc, policy.filesystems(), index, name)?;
     let addresses = addresses_of(alloc, &tables.netgroups, &tables.hosts, name)?;
@@ -104,4 +103,19 @@ pub(crate) fn stands_for<'a>(ranges: &'a [Span]) -> Part<'a>
     } else {
         Part::Ranges(ranges)
     }
+}
+
+/// Names the lines that write a name, or says that none does.
+pub(crate) fn uses_or<'a>(
+    alloc: Global,
+    facts: &'a NameFacts<'_>,
+) -> Result<Vec<Part<'a>>, AllocError>
+    ensures { IfOk result (λ parts. map item_of parts.items ≡ spec.written_by facts.now.uses.items) }
+{
+    some_or(
+        alloc,
+        facts.uses.as_slice(),
+        MOST_USES,
+        Part::Zero("no line"),
+    )
 }

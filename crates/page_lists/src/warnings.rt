@@ -135,14 +135,18 @@ fn push_warning(alloc: Global, row: &WarningRow<'_>, page: &mut String) -> Resul
     ensures { OnOk result (string_bytes page.new ≡ string_bytes page.old ++ row_html spec.frame (spec.cells row.now)) }
 {
     let line = line_of(row);
-    let cells: [&[Part<'_>]; 5] = [
-        &[Part::Code(row.file)],
-        &line,
-        &[Part::Code(row.word)],
-        &[name_of(row.kind)],
-        &[meaning_of(row.kind)],
-    ];
-    push_row(alloc, &WARNINGS, &cells, page)
+    push_row(
+        alloc,
+        &WARNINGS,
+        &[
+            &[Part::Code(row.file)],
+            &line,
+            &[Part::Code(row.word)],
+            &[name_of(row.kind)],
+            &[meaning_of(row.kind)],
+        ],
+        page,
+    )
 }
 
 /// Returns the line, with a link if it is one of a file system.

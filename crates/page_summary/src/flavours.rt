@@ -7,7 +7,7 @@ ghost use Rattle.page_summary.specs.FlavoursTable as spec;
 
 use desk_exports::Flavour;
 use page_html::{Column, Frame, Part, Tag, Title, push_row, push_table_start, push_tag};
-use page_lists::{Mention, five_cells, some_parts};
+use page_lists::{Mention, some_parts};
 use std::alloc::{AllocError, Global};
 
 /// How many file systems a cell names.
@@ -73,7 +73,7 @@ fn push_flavours(alloc: Global, row: &FlavoursRow<'_>, page: &mut String) -> Res
     push_row(
         alloc,
         &FLAVOURS,
-        &five_cells(
+        &page_html::five_cells(
             &[Part::FlavourNames(row.flavours)],
             &[Part::Flavours(row.flavours)],
             &[Part::Number(row.lines)],

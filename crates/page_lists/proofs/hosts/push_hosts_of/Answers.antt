@@ -2,7 +2,6 @@ use Rattle.std.proofs.Common.{◌++◌, ◌∙◌, List, ap, map, Bor, ℕ}
 use Rattle.std.specs.String.{string_bytes}
 use Rattle.std.proofs.lemmas.Result.{on_ok_weaker}
 use Rattle.page_lists.specs.Hosts.{hosts, row_of}
-use Rattle.page_lists.specs.PrivateHosts.{facts_row}
 use Rattle.page_lists.proofs.HostNames.{of_policy}
 use Rattle.page_lists.proofs.hosts.push_hosts_of.Goals as goal
 
@@ -20,9 +19,7 @@ returns c =
       are = record {
         names = names;
         are = of_policy tables.netgroups policy c.args.index.now names c.requires.just c.in_ok-names.ensures;
-        rows_are =
-            c.in_ok-rows.ensures ∙ ap (map facts_row) c.as_slice-found.ensures.value ∙ c.in_ok-hosts.ensures
-            ∙ ap (λ some. map (row_of policy tables) (texts_in some)) c.as_slice.ensures.value;
+        rows_are = c.in_ok-rows.ensures ∙ ap (λ some. map (row_of policy tables) (texts_in some)) c.as_slice.ensures.value;
       };
       added = added ∙ ap (λ rows. string_bytes c.args.page.now ++ hosts rows) c.as_slice-2.ensures.value;
     })
