@@ -5,7 +5,6 @@ use Rattle.std.proofs.lemmas.List.{length-map}
 use Rattle.std.proofs.lemmas.List.Elements.{All-contains}
 use Rattle.desk_core.specs.Listing.{AreHeldFiles, AreMountsWithExports, HeldFile, IsHeld, exports_file, seven_files}
 use Rattle.desk_core.specs.Standing.{Standing}
-use Rattle.desk_core.specs.declared.head.Head.{Head}
 use Rattle.desk_netgroup.specs.declared.group_line.GroupLine.{GroupLine}
 use Rattle.desk_policy.specs.Policy.{Content}
 use Rattle.desk_policy.specs.SiteFile.{exports_file_name}
@@ -59,32 +58,6 @@ one_list_of_files standing files others are its =
     are.files_are ∙ ap (λ mounts. seven_files standing.newest ++ map (exports_file standing) mounts) (one_list_of_mounts standing are.mounts its.mounts are.are its.are)
     ∙ sym its.files_are
 
-file_row : of_files.RowValue → FileRow
-file_row value = record {
-  file = lend value.file;
-  head = option_map lend value.head;
-  digest = lend value.digest;
-  proposer = option_map lend value.proposer;
-  is_unlisted = value.is_unlisted;
-}
-
-abbrev file_again : FileRow → FileRow
-file_again row = file_row (of_files.row_value row)
-
-file_cells : (row : FileRow) → of_files.cells row ≡ of_files.cells (file_again row)
-unfolding file_row
-unfolding lend
-file_cells row = at row.file row.head row.digest row.proposer row.is_unlisted
-  where
-    abbrev made : Bor (List ℕ) → Option (Bor Head) → Bor (List ℕ) → Option (Bor (List ℕ)) → Bool → FileRow
-    made file head digest proposer is_unlisted = record { file = file; head = head; digest = digest; proposer = proposer; is_unlisted = is_unlisted }
-    at : (file : Bor (List ℕ)) (head : Option (Bor Head)) (digest : Bor (List ℕ)) (proposer : Option (Bor (List ℕ))) (is_unlisted : Bool)
-        → of_files.cells (made file head digest proposer is_unlisted) ≡ of_files.cells (file_again (made file head digest proposer is_unlisted))
-    at file None digest None is_unlisted = refl
-    at file None digest (Some name) is_unlisted = refl
-    at file (Some head) digest None is_unlisted = refl
-    at file (Some head) digest (Some name) is_unlisted = refl
-
 file_table : ℕ → List (List (List (Item (List ℕ)))) → List ℕ
 file_table count cells =
     long_start 40 count (codes "file") (codes "files") ++ table_start of_files.frame (Said (codes "Files and their newest revisions") ∷ [])
@@ -93,8 +66,9 @@ file_table count cells =
 one_file_table : (rows others : List FileRow) → map of_files.row_value rows ≡ map of_files.row_value others → of_files.files rows ≡ of_files.files others
 unfolding file_table
 one_file_table rows others same =
-    ap (λ count. file_table count (map of_files.cells rows)) (as_many of_files.row_value rows others same)
-    ∙ ap (file_table (length others)) (told_alike of_files.row_value of_files.cells (λ value. of_files.cells (file_row value)) file_cells rows others same)
+    let cells = λ (row : FileRow). of_files.cells (of_files.row_value row) in
+    ap (λ count. file_table count (map cells rows)) (as_many of_files.row_value rows others same)
+    ∙ ap (file_table (length others)) (told_alike of_files.row_value cells of_files.cells (λ row. refl) rows others same)
 
 one_text_of_files : (table : List Mount) (standing : Standing) (old text other : List ℕ) → AddsFiles table standing old text → AddsFiles table standing old other → text ≡ other
 one_text_of_files table standing old text other adds its =
@@ -131,31 +105,27 @@ one_text_of_warnings content old text other adds its =
 
 -- ---- netgroups
 
-netgroup_row : of_netgroups.RowValue → NetgroupRow
-netgroup_row value = record {
-  name = lend value.name;
-  line = value.line;
-  members = lend (map mention_of value.members);
-  hosts = value.hosts;
-  addresses = value.facts.addresses;
-  ranges = lend (map span_of value.facts.ranges);
-  uses = lend (map mention_of value.facts.uses);
-}
+netgroup_told : of_netgroups.RowValue → List (List (Item (List ℕ)))
+netgroup_told value =
+    (Code value.name ∷ []) ∷ (number value.line ∷ []) ∷ members_of (map mention_of value.members) ∷ (Own (Number value.hosts) ∷ [])
+    ∷ (Own (Number value.facts.addresses) ∷ []) ∷ (stands_for (map span_of value.facts.ranges) ∷ [])
+    ∷ written_by (map mention_of value.facts.uses) ∷ []
 
-netgroup_cells : (row : NetgroupRow) → netgroup row ≡ netgroup (netgroup_row (of_netgroups.row_value row))
-unfolding netgroup_row
-unfolding lend
+netgroup_cells : (row : NetgroupRow) → netgroup row ≡ netgroup_told (of_netgroups.row_value row)
+unfolding netgroup_told
 netgroup_cells row =
-    let name = Code row.name.now ∷ [] in
-    let line = number row.line ∷ [] in
+    let name = Code row.group.now.name ∷ [] in
+    let line = number row.group.now.line ∷ [] in
     let hosts = Own (Number row.hosts) ∷ [] in
-    let addresses = Own (Number row.addresses) ∷ [] in
-    let members = members_of (again row.members.now) in
-    let ranges = stands_for (map span_of (map ends_of row.ranges.now)) ∷ [] in
-    ap (λ told. name ∷ line ∷ told ∷ hosts ∷ addresses ∷ (stands_for row.ranges.now ∷ []) ∷ written_by row.uses.now ∷ [])
-    (some_or_again 8 (Own (Words (codes "-"))) row.members.now)
-    ∙ ap (λ spans. name ∷ line ∷ members ∷ hosts ∷ addresses ∷ (stands_for spans ∷ []) ∷ written_by row.uses.now ∷ []) (spans_again row.ranges.now)
-    ∙ ap (λ told. name ∷ line ∷ members ∷ hosts ∷ addresses ∷ ranges ∷ told ∷ []) (some_or_again 6 no_line row.uses.now)
+    let addresses = Own (Number row.facts.addresses) ∷ [] in
+    let given = row.facts.ranges.items in
+    let uses = row.facts.uses.items in
+    let members = members_of (again row.members.items) in
+    let ranges = stands_for (map span_of (map ends_of given)) ∷ [] in
+    ap (λ told. name ∷ line ∷ told ∷ hosts ∷ addresses ∷ (stands_for given ∷ []) ∷ written_by uses ∷ [])
+    (some_or_again 8 (Own (Words (codes "-"))) row.members.items)
+    ∙ ap (λ spans. name ∷ line ∷ members ∷ hosts ∷ addresses ∷ (stands_for spans ∷ []) ∷ written_by uses ∷ []) (spans_again given)
+    ∙ ap (λ told. name ∷ line ∷ members ∷ hosts ∷ addresses ∷ ranges ∷ told ∷ []) (some_or_again 6 no_line uses)
 
 netgroup_table : ℕ → List (List (List (Item (List ℕ)))) → List ℕ
 netgroup_table count cells =
@@ -167,7 +137,7 @@ one_netgroup_table : (rows others : List NetgroupRow) → map of_netgroups.row_v
 unfolding netgroup_table
 one_netgroup_table rows others same =
     ap (λ count. netgroup_table count (map netgroup rows)) (as_many of_netgroups.row_value rows others same)
-    ∙ ap (netgroup_table (length others)) (told_alike of_netgroups.row_value netgroup (λ value. netgroup (netgroup_row value)) netgroup_cells rows others same)
+    ∙ ap (netgroup_table (length others)) (told_alike of_netgroups.row_value netgroup netgroup_told netgroup_cells rows others same)
 
 one_text_of_netgroups : (content : Content) (tables : SiteTables) (old text other : List ℕ) → AddsNetgroups content tables old text → AddsNetgroups content tables old other → text ≡ other
 one_text_of_netgroups content tables old text other adds its =
@@ -181,25 +151,22 @@ one_list_of_names netgroups written names others are its =
     (λ name has. (let is = are.each name has in its.all name is.0 is.1))
     (λ name has. (let is = its.each name has in are.all name is.0 is.1))
 
-host_row : of_hosts.RowValue → HostRow
-host_row value = record {
-  name = lend value.name;
-  kind = value.kind;
-  addresses = value.facts.addresses;
-  ranges = lend (map span_of value.facts.ranges);
-  uses = lend (map mention_of value.facts.uses);
-}
+host_told : of_hosts.RowValue → List (List (Item (List ℕ)))
+host_told value =
+    (Code value.name ∷ []) ∷ (of_hosts.kind value.kind ∷ []) ∷ (Own (Number value.facts.addresses) ∷ [])
+    ∷ (stands_for (map span_of value.facts.ranges) ∷ []) ∷ written_by (map mention_of value.facts.uses) ∷ []
 
-host_cells : (row : HostRow) → host row ≡ host (host_row (of_hosts.row_value row))
-unfolding host_row
-unfolding lend
+host_cells : (row : HostRow) → host row ≡ host_told (of_hosts.row_value row)
+unfolding host_told
 host_cells row =
     let name = Code row.name.now ∷ [] in
-    let kind = of_hosts.kind row.kind ∷ [] in
-    let addresses = Own (Number row.addresses) ∷ [] in
-    let ranges = stands_for (map span_of (map ends_of row.ranges.now)) ∷ [] in
-    ap (λ spans. name ∷ kind ∷ addresses ∷ (stands_for spans ∷ []) ∷ written_by row.uses.now ∷ []) (spans_again row.ranges.now)
-    ∙ ap (λ told. name ∷ kind ∷ addresses ∷ ranges ∷ told ∷ []) (some_or_again 6 no_line row.uses.now)
+    let kind = of_hosts.kind (of_hosts.row_value row).kind ∷ [] in
+    let addresses = Own (Number row.facts.addresses) ∷ [] in
+    let given = row.facts.ranges.items in
+    let uses = row.facts.uses.items in
+    let ranges = stands_for (map span_of (map ends_of given)) ∷ [] in
+    ap (λ spans. name ∷ kind ∷ addresses ∷ (stands_for spans ∷ []) ∷ written_by uses ∷ []) (spans_again given)
+    ∙ ap (λ told. name ∷ kind ∷ addresses ∷ ranges ∷ told ∷ []) (some_or_again 6 no_line uses)
 
 host_table : ℕ → List (List (List (Item (List ℕ)))) → List ℕ
 host_table count cells =
@@ -211,7 +178,7 @@ one_host_table : (rows others : List HostRow) → map of_hosts.row_value rows �
 unfolding host_table
 one_host_table rows others same =
     ap (λ count. host_table count (map host rows)) (as_many of_hosts.row_value rows others same)
-    ∙ ap (host_table (length others)) (told_alike of_hosts.row_value host (λ value. host (host_row value)) host_cells rows others same)
+    ∙ ap (host_table (length others)) (told_alike of_hosts.row_value host host_told host_cells rows others same)
 
 one_text_of_hosts : (content : Content) (tables : SiteTables) (old text other : List ℕ) → AddsHosts content tables old text → AddsHosts content tables old other → text ≡ other
 one_text_of_hosts content tables old text other adds its =
