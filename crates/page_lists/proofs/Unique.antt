@@ -59,7 +59,7 @@ one_list_of_files standing files others are its =
     are.files_are ∙ ap (λ mounts. seven_files standing.newest ++ map (exports_file standing) mounts) (one_list_of_mounts standing are.mounts its.mounts are.are its.are)
     ∙ sym its.files_are
 
-file_row : of_files.RowValue → FileRow
+abbrev file_row : of_files.RowValue → FileRow
 file_row value = record {
   file = lend value.file;
   head = option_map lend value.head;
@@ -71,27 +71,25 @@ file_row value = record {
 abbrev file_again : FileRow → FileRow
 file_again row = file_row (of_files.row_value row)
 
-file_cells : (row : FileRow) → of_files.cells row ≡ of_files.cells (file_again row)
-unfolding file_row
-unfolding lend
-file_cells row = at row.file row.head row.digest row.proposer row.is_unlisted
-  where
-    abbrev made : Bor (List ℕ) → Option (Bor Head) → Bor (List ℕ) → Option (Bor (List ℕ)) → Bool → FileRow
-    made file head digest proposer is_unlisted = record { file = file; head = head; digest = digest; proposer = proposer; is_unlisted = is_unlisted }
-    at : (file : Bor (List ℕ)) (head : Option (Bor Head)) (digest : Bor (List ℕ)) (proposer : Option (Bor (List ℕ))) (is_unlisted : Bool)
-        → of_files.cells (made file head digest proposer is_unlisted) ≡ of_files.cells (file_again (made file head digest proposer is_unlisted))
-    at file None digest None is_unlisted = refl
-    at file None digest (Some name) is_unlisted = refl
-    at file (Some head) digest None is_unlisted = refl
-    at file (Some head) digest (Some name) is_unlisted = refl
+abbrev made : Bor (List ℕ) → Option (Bor Head) → Bor (List ℕ) → Option (Bor (List ℕ)) → Bool → FileRow
+made file head digest proposer is_unlisted = record { file = file; head = head; digest = digest; proposer = proposer; is_unlisted = is_unlisted }
 
-file_table : ℕ → List (List (List (Item (List ℕ)))) → List ℕ
+file_at : (file : Bor (List ℕ)) (head : Option (Bor Head)) (digest : Bor (List ℕ)) (proposer : Option (Bor (List ℕ))) (is_unlisted : Bool)
+    → of_files.cells (made file head digest proposer is_unlisted) ≡ of_files.cells (file_again (made file head digest proposer is_unlisted))
+file_at file None digest None is_unlisted = refl
+file_at file None digest (Some name) is_unlisted = refl
+file_at file (Some head) digest None is_unlisted = refl
+file_at file (Some head) digest (Some name) is_unlisted = refl
+
+file_cells : (row : FileRow) → of_files.cells row ≡ of_files.cells (file_again row)
+file_cells row = file_at row.file row.head row.digest row.proposer row.is_unlisted
+
+abbrev file_table : ℕ → List (List (List (Item (List ℕ)))) → List ℕ
 file_table count cells =
     long_start 40 count (codes "file") (codes "files") ++ table_start of_files.frame (Said (codes "Files and their newest revisions") ∷ [])
     ++ rows_html of_files.frame cells ++ tag_html TableEnd ++ long_end 40 count
 
 one_file_table : (rows others : List FileRow) → map of_files.row_value rows ≡ map of_files.row_value others → of_files.files rows ≡ of_files.files others
-unfolding file_table
 one_file_table rows others same =
     ap (λ count. file_table count (map of_files.cells rows)) (as_many of_files.row_value rows others same)
     ∙ ap (file_table (length others)) (told_alike of_files.row_value of_files.cells (λ value. of_files.cells (file_row value)) file_cells rows others same)
@@ -104,22 +102,19 @@ one_text_of_files table standing old text other adds its =
 
 -- ---- warnings
 
-warning_row : of_warnings.RowValue → WarningRow
+abbrev warning_row : of_warnings.RowValue → WarningRow
 warning_row value = record { file = lend value.file; fs = value.fs; line = value.line; word = lend value.word; kind = value.kind }
 
 warning_cells : (row : WarningRow) → of_warnings.cells row ≡ of_warnings.cells (warning_row (of_warnings.row_value row))
-unfolding warning_row
-unfolding lend
 warning_cells row = refl
 
-warning_table : ℕ → List (List (List (Item (List ℕ)))) → List ℕ
+abbrev warning_table : ℕ → List (List (List (Item (List ℕ)))) → List ℕ
 warning_table count cells =
     if count == 0 then element_html Paragraph (Own (Words (codes "No word has a warning.")) ∷ [])
     else long_start 24 count (codes "warning") (codes "warnings") ++ table_start of_warnings.frame (Said (codes "Warnings about words") ∷ [])
     ++ rows_html of_warnings.frame cells ++ tag_html TableEnd ++ long_end 24 count
 
 one_warning_table : (rows others : List WarningRow) → map of_warnings.row_value rows ≡ map of_warnings.row_value others → of_warnings.warnings rows ≡ of_warnings.warnings others
-unfolding warning_table
 one_warning_table rows others same =
     ap (λ count. warning_table count (map of_warnings.cells rows)) (as_many of_warnings.row_value rows others same)
     ∙ ap (warning_table (length others))
@@ -131,7 +126,7 @@ one_text_of_warnings content old text other adds its =
 
 -- ---- netgroups
 
-netgroup_row : of_netgroups.RowValue → NetgroupRow
+abbrev netgroup_row : of_netgroups.RowValue → NetgroupRow
 netgroup_row value = record {
   name = lend value.name;
   line = value.line;
@@ -143,8 +138,6 @@ netgroup_row value = record {
 }
 
 netgroup_cells : (row : NetgroupRow) → netgroup row ≡ netgroup (netgroup_row (of_netgroups.row_value row))
-unfolding netgroup_row
-unfolding lend
 netgroup_cells row =
     let name = Code row.name.now ∷ [] in
     let line = number row.line ∷ [] in
@@ -157,14 +150,13 @@ netgroup_cells row =
     ∙ ap (λ spans. name ∷ line ∷ members ∷ hosts ∷ addresses ∷ (stands_for spans ∷ []) ∷ written_by row.uses.now ∷ []) (spans_again row.ranges.now)
     ∙ ap (λ told. name ∷ line ∷ members ∷ hosts ∷ addresses ∷ ranges ∷ told ∷ []) (some_or_again 6 no_line row.uses.now)
 
-netgroup_table : ℕ → List (List (List (Item (List ℕ)))) → List ℕ
+abbrev netgroup_table : ℕ → List (List (List (Item (List ℕ)))) → List ℕ
 netgroup_table count cells =
     if count == 0 then no_netgroup
     else long_start 24 count (codes "netgroup") (codes "netgroups") ++ table_start netgroup_frame (Said (codes "Netgroups") ∷ [])
     ++ rows_html netgroup_frame cells ++ tag_html TableEnd ++ long_end 24 count
 
 one_netgroup_table : (rows others : List NetgroupRow) → map of_netgroups.row_value rows ≡ map of_netgroups.row_value others → of_netgroups.netgroups rows ≡ of_netgroups.netgroups others
-unfolding netgroup_table
 one_netgroup_table rows others same =
     ap (λ count. netgroup_table count (map netgroup rows)) (as_many of_netgroups.row_value rows others same)
     ∙ ap (netgroup_table (length others)) (told_alike of_netgroups.row_value netgroup (λ value. netgroup (netgroup_row value)) netgroup_cells rows others same)
@@ -181,7 +173,7 @@ one_list_of_names netgroups written names others are its =
     (λ name has. (let is = are.each name has in its.all name is.0 is.1))
     (λ name has. (let is = its.each name has in are.all name is.0 is.1))
 
-host_row : of_hosts.RowValue → HostRow
+abbrev host_row : of_hosts.RowValue → HostRow
 host_row value = record {
   name = lend value.name;
   kind = value.kind;
@@ -191,8 +183,6 @@ host_row value = record {
 }
 
 host_cells : (row : HostRow) → host row ≡ host (host_row (of_hosts.row_value row))
-unfolding host_row
-unfolding lend
 host_cells row =
     let name = Code row.name.now ∷ [] in
     let kind = of_hosts.kind row.kind ∷ [] in
@@ -201,14 +191,13 @@ host_cells row =
     ap (λ spans. name ∷ kind ∷ addresses ∷ (stands_for spans ∷ []) ∷ written_by row.uses.now ∷ []) (spans_again row.ranges.now)
     ∙ ap (λ told. name ∷ kind ∷ addresses ∷ ranges ∷ told ∷ []) (some_or_again 6 no_line row.uses.now)
 
-host_table : ℕ → List (List (List (Item (List ℕ)))) → List ℕ
+abbrev host_table : ℕ → List (List (List (Item (List ℕ)))) → List ℕ
 host_table count cells =
     if count == 0 then []
     else long_start 24 count (codes "name") (codes "names") ++ table_start host_frame (Said (codes "Names of hosts that lines write") ∷ [])
     ++ rows_html host_frame cells ++ tag_html TableEnd ++ long_end 24 count
 
 one_host_table : (rows others : List HostRow) → map of_hosts.row_value rows ≡ map of_hosts.row_value others → of_hosts.hosts rows ≡ of_hosts.hosts others
-unfolding host_table
 one_host_table rows others same =
     ap (λ count. host_table count (map host rows)) (as_many of_hosts.row_value rows others same)
     ∙ ap (host_table (length others)) (told_alike of_hosts.row_value host (λ value. host (host_row value)) host_cells rows others same)

@@ -4,3 +4,4 @@ pub mod Standing
 pub mod Looking
 pub mod Deciders
 mod Revisions
+pub mod Unique

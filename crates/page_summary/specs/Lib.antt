@@ -17,3 +17,4 @@ pub mod SiteFinding
 pub mod Laws
 pub mod Amounts
 pub mod State
+pub mod UniqueLaws

@@ -35,7 +35,7 @@ pub use flavours::{FlavoursRow, push_flavours_table};
 pub use flavours_rows::push_flavours_of;
 pub use header::{Header, push_header};
 pub use key_figures::push_figures_of;
-pub use laws::named_lines_decide;
+pub use laws::{named_lines_decide, summary_is_told_in_one_way};
 pub use overview::{Reach, SystemRow, push_overview};
 pub use proposals::{ProposalRow, push_standing_proposals};
 pub use sections::{Section, push_footer, push_section_end, push_section_start};
