@@ -1,7 +1,7 @@
 pub mod Valued
 pub mod Rowed
+pub mod Unique
 pub mod Standing
 pub mod Looking
 pub mod Deciders
 mod Revisions
-pub mod Unique

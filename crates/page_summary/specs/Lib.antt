@@ -11,10 +11,10 @@ pub mod FindingRows
 pub mod Proposals
 pub mod FlavoursRows
 pub mod Reaching
+pub mod UniqueLaws
 pub mod SystemRows
 pub mod SiteData
 pub mod SiteFinding
 pub mod Laws
 pub mod Amounts
 pub mod State
-pub mod UniqueLaws
