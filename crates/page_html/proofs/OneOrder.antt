@@ -1,5 +1,5 @@
 -- Lists in a strict order that have the same elements are the same, and what is told by value is the same of the same values.
-use Rattle.std.proofs.Common.{◌≡◌, ℕ, suc, ◌++◌, ◌∙◌, true, false, List, [], ◌∷◌, ap, arith, inl, inr, map, nat_cmp, refl, subst, sym, true≢false}
+use Rattle.std.proofs.Common.{◌≡◌, ℕ, suc, zero, ◌++◌, ◌∙◌, true, false, List, [], ◌∷◌, ap, arith, inl, inr, map, nat_cmp, refl, subst, sym, true≢false}
 use Rattle.std.specs.Prelude.{◌⊎◌, Contains}
 use Rattle.std.specs.Cmp.Lexicographic.{slice_cmp}
 use Rattle.std.specs.List.{AllPairs}
@@ -19,7 +19,7 @@ module _ {X : Type 0} where
   there x z xs has = (let within = has.1 in (suc has.0, omega arith, has.2))
 
   here_or_there : (x z : X) (xs : List X) → Contains (x ∷ xs) z → (x ≡ z) ⊎ Contains xs z
-  here_or_there x z xs (0, within, is) = inl is
+  here_or_there x z xs (zero, within, is) = inl is
   here_or_there x z xs (suc k, within, is) = inr (k, omega arith, is)
 
   none : (x : X) → Contains [] x → ⊥

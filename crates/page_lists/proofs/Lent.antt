@@ -1,5 +1,5 @@
 -- Rows that lend what is told, made again of their values: the page says the same of both.
-use Rattle.std.proofs.Common.{◌≡◌, ℕ, ◌++◌, ◌∙◌, Bool, Bor, List, [], ◌∷◌, Option, Some, None, ap, codes, drop, length, map, option_copied, option_map, refl, sym, take}
+use Rattle.std.proofs.Common.{◌≡◌, ℕ, ◌==◌, ◌++◌, ◌∙◌, Bool, Bor, List, [], ◌∷◌, Option, Some, None, ap, codes, drop, if◌then◌else◌, length, map, option_copied, option_map, refl, sym, take}
 use Rattle.std.specs.List.{flat_map}
 use Rattle.std.proofs.lemmas.List.{drop-map, length-map, take-map}
 use Rattle.page_html.specs.Items.{AndMore, Item, Own}
@@ -11,20 +11,19 @@ use Rattle.page_lists.specs.declared.mentions.Mention.{Mention}
 use Rattle.page_lists.specs.declared.mentions.Mention.TheVariants.{Group, Host, Line, System}
 
 -- a value, lent
-pub lend : {T : Type 0} → T → Bor T
+abbrev pub lend : {T : Type 0} → T → Bor T
 lend x = record { ref_ptr = (0, 0); now = x }
 
 -- ranges, made again of their ends
-pub span_of : Ends → Span
+abbrev pub span_of : Ends → Span
 span_of ends = record { first = record { number = ends.first }; last = record { number = ends.last } }
 
 pub spans_again : (spans : List Span) → spans ≡ map span_of (map ends_of spans)
-unfolding span_of
 spans_again [] = refl
 spans_again (span ∷ spans) = ap (λ others. span ∷ others) (spans_again spans)
 
 -- what a cell names, made again of its value
-pub mention_of : MentionValue → Mention
+abbrev pub mention_of : MentionValue → Mention
 mention_of (OfSystem fs name) = System (record { 0 = fs }) (lend name)
 mention_of (OfLine fs name line) = Line (record { 0 = fs }) (lend name) line
 mention_of (OfHost name) = Host (lend name)
@@ -34,18 +33,12 @@ abbrev pub again : List Mention → List Mention
 again mentions = map mention_of (map mention_value mentions)
 
 one_again : (one : Mention) → mention one ≡ mention (mention_of (mention_value one))
-unfolding lend
-
-unfolding mention_of
 one_again (System fs name) = refl
 one_again (Line fs name line) = refl
 one_again (Host name) = refl
 one_again (Group name) = refl
 
 later_again : (one : Mention) → later one ≡ later (mention_of (mention_value one))
-unfolding lend
-
-unfolding mention_of
 later_again (System fs name) = refl
 later_again (Line fs name line) = refl
 later_again (Host name) = refl
@@ -78,5 +71,4 @@ some_again most mentions =
     ∙ ap (λ count. all_of (take most (again mentions)) ++ Own (AndMore count) ∷ []) (as_many (drop most mentions) ∙ ap length (sym (dropped most mentions)))
 
 pub some_or_again : (most : ℕ) (nothing : Item (List ℕ)) (mentions : List Mention) → some_or most nothing mentions ≡ some_or most nothing (again mentions)
-some_or_again most nothing [] = refl
-some_or_again most nothing (one ∷ mentions) = some_again most (one ∷ mentions)
+some_or_again most nothing mentions = λ i. if as_many mentions i == 0 then nothing ∷ [] else some_again most mentions i

@@ -58,13 +58,12 @@ one_list_of_files standing files others are its =
     are.files_are ∙ ap (λ mounts. seven_files standing.newest ++ map (exports_file standing) mounts) (one_list_of_mounts standing are.mounts its.mounts are.are its.are)
     ∙ sym its.files_are
 
-file_table : ℕ → List (List (List (Item (List ℕ)))) → List ℕ
+abbrev file_table : ℕ → List (List (List (Item (List ℕ)))) → List ℕ
 file_table count cells =
     long_start 40 count (codes "file") (codes "files") ++ table_start of_files.frame (Said (codes "Files and their newest revisions") ∷ [])
     ++ rows_html of_files.frame cells ++ tag_html TableEnd ++ long_end 40 count
 
 one_file_table : (rows others : List FileRow) → map of_files.row_value rows ≡ map of_files.row_value others → of_files.files rows ≡ of_files.files others
-unfolding file_table
 one_file_table rows others same =
     let cells = λ (row : FileRow). of_files.cells (of_files.row_value row) in
     ap (λ count. file_table count (map cells rows)) (as_many of_files.row_value rows others same)
@@ -78,22 +77,19 @@ one_text_of_files table standing old text other adds its =
 
 -- ---- warnings
 
-warning_row : of_warnings.RowValue → WarningRow
+abbrev warning_row : of_warnings.RowValue → WarningRow
 warning_row value = record { file = lend value.file; fs = value.fs; line = value.line; word = lend value.word; kind = value.kind }
 
 warning_cells : (row : WarningRow) → of_warnings.cells row ≡ of_warnings.cells (warning_row (of_warnings.row_value row))
-unfolding warning_row
-unfolding lend
 warning_cells row = refl
 
-warning_table : ℕ → List (List (List (Item (List ℕ)))) → List ℕ
+abbrev warning_table : ℕ → List (List (List (Item (List ℕ)))) → List ℕ
 warning_table count cells =
     if count == 0 then element_html Paragraph (Own (Words (codes "No word has a warning.")) ∷ [])
     else long_start 24 count (codes "warning") (codes "warnings") ++ table_start of_warnings.frame (Said (codes "Warnings about words") ∷ [])
     ++ rows_html of_warnings.frame cells ++ tag_html TableEnd ++ long_end 24 count
 
 one_warning_table : (rows others : List WarningRow) → map of_warnings.row_value rows ≡ map of_warnings.row_value others → of_warnings.warnings rows ≡ of_warnings.warnings others
-unfolding warning_table
 one_warning_table rows others same =
     ap (λ count. warning_table count (map of_warnings.cells rows)) (as_many of_warnings.row_value rows others same)
     ∙ ap (warning_table (length others))
@@ -105,14 +101,13 @@ one_text_of_warnings content old text other adds its =
 
 -- ---- netgroups
 
-netgroup_told : of_netgroups.RowValue → List (List (Item (List ℕ)))
+abbrev netgroup_told : of_netgroups.RowValue → List (List (Item (List ℕ)))
 netgroup_told value =
     (Code value.name ∷ []) ∷ (number value.line ∷ []) ∷ members_of (map mention_of value.members) ∷ (Own (Number value.hosts) ∷ [])
     ∷ (Own (Number value.facts.addresses) ∷ []) ∷ (stands_for (map span_of value.facts.ranges) ∷ [])
     ∷ written_by (map mention_of value.facts.uses) ∷ []
 
 netgroup_cells : (row : NetgroupRow) → netgroup row ≡ netgroup_told (of_netgroups.row_value row)
-unfolding netgroup_told
 netgroup_cells row =
     let name = Code row.group.now.name ∷ [] in
     let line = number row.group.now.line ∷ [] in
@@ -127,14 +122,13 @@ netgroup_cells row =
     ∙ ap (λ spans. name ∷ line ∷ members ∷ hosts ∷ addresses ∷ (stands_for spans ∷ []) ∷ written_by uses ∷ []) (spans_again given)
     ∙ ap (λ told. name ∷ line ∷ members ∷ hosts ∷ addresses ∷ ranges ∷ told ∷ []) (some_or_again 6 no_line uses)
 
-netgroup_table : ℕ → List (List (List (Item (List ℕ)))) → List ℕ
+abbrev netgroup_table : ℕ → List (List (List (Item (List ℕ)))) → List ℕ
 netgroup_table count cells =
     if count == 0 then no_netgroup
     else long_start 24 count (codes "netgroup") (codes "netgroups") ++ table_start netgroup_frame (Said (codes "Netgroups") ∷ [])
     ++ rows_html netgroup_frame cells ++ tag_html TableEnd ++ long_end 24 count
 
 one_netgroup_table : (rows others : List NetgroupRow) → map of_netgroups.row_value rows ≡ map of_netgroups.row_value others → of_netgroups.netgroups rows ≡ of_netgroups.netgroups others
-unfolding netgroup_table
 one_netgroup_table rows others same =
     ap (λ count. netgroup_table count (map netgroup rows)) (as_many of_netgroups.row_value rows others same)
     ∙ ap (netgroup_table (length others)) (told_alike of_netgroups.row_value netgroup netgroup_told netgroup_cells rows others same)
@@ -151,13 +145,12 @@ one_list_of_names netgroups written names others are its =
     (λ name has. (let is = are.each name has in its.all name is.0 is.1))
     (λ name has. (let is = its.each name has in are.all name is.0 is.1))
 
-host_told : of_hosts.RowValue → List (List (Item (List ℕ)))
+abbrev host_told : of_hosts.RowValue → List (List (Item (List ℕ)))
 host_told value =
     (Code value.name ∷ []) ∷ (of_hosts.kind value.kind ∷ []) ∷ (Own (Number value.facts.addresses) ∷ [])
     ∷ (stands_for (map span_of value.facts.ranges) ∷ []) ∷ written_by (map mention_of value.facts.uses) ∷ []
 
 host_cells : (row : HostRow) → host row ≡ host_told (of_hosts.row_value row)
-unfolding host_told
 host_cells row =
     let name = Code row.name.now ∷ [] in
     let kind = of_hosts.kind (of_hosts.row_value row).kind ∷ [] in
@@ -168,14 +161,13 @@ host_cells row =
     ap (λ spans. name ∷ kind ∷ addresses ∷ (stands_for spans ∷ []) ∷ written_by uses ∷ []) (spans_again given)
     ∙ ap (λ told. name ∷ kind ∷ addresses ∷ ranges ∷ told ∷ []) (some_or_again 6 no_line uses)
 
-host_table : ℕ → List (List (List (Item (List ℕ)))) → List ℕ
+abbrev host_table : ℕ → List (List (List (Item (List ℕ)))) → List ℕ
 host_table count cells =
     if count == 0 then []
     else long_start 24 count (codes "name") (codes "names") ++ table_start host_frame (Said (codes "Names of hosts that lines write") ∷ [])
     ++ rows_html host_frame cells ++ tag_html TableEnd ++ long_end 24 count
 
 one_host_table : (rows others : List HostRow) → map of_hosts.row_value rows ≡ map of_hosts.row_value others → of_hosts.hosts rows ≡ of_hosts.hosts others
-unfolding host_table
 one_host_table rows others same =
     ap (λ count. host_table count (map host rows)) (as_many of_hosts.row_value rows others same)
     ∙ ap (host_table (length others)) (told_alike of_hosts.row_value host host_told host_cells rows others same)
