@@ -1,4 +1,4 @@
-//! What a report tells of a site, as data: what clients may at the most, what each line grants and why it stands out,
+//! What a report tells of a site, as data: the most that clients may, what each line grants and why it stands out,
 //! which places are granted alike, and where mountd(8) grants what this desk denies.
 //!
 //! ```text
