@@ -23,7 +23,7 @@ use Rattle.page_summary.specs.SystemRows.{AreOverviewRows, OverviewRows, overvie
 use Rattle.page_summary.specs.declared.overview.Reach.{Reach}
 use Rattle.page_summary.specs.declared.overview.SystemRow.{SystemRow}
 use Rattle.page_site.specs.FoundInSite.{Found, IsFound}
-use Rattle.page_site.specs.MadeOfBlocks.{AreCellsOfPicturesAlone, HavePicturesAlone, IsMadeOfBlocks}
+use Rattle.page_site.specs.MadeOfBlocks.{CellsHaveNoHtmlButPictures, HaveNoHtmlButPictures, IsMadeOfBlocks}
 use Rattle.page_site.specs.Page.{parts_of}
 use Rattle.page_site.proofs.Made.{all_append, append_made, block_made, fixed_made, nothing_made, same_made, start_made, tag_made}
 use Rattle.page_site.proofs.Plain.{ArePlain, ArePlainCells, cells_alone, cells_cons, either_plain, parts, plain_cons, some_cells}
@@ -43,7 +43,7 @@ cells_append (column ∷ columns) others (items ∷ some) rest same =
 abbrev picture : DrawnMap → List (Item (List ℕ))
 picture drawn = Own (Drawn (small_map drawn)) ∷ []
 
-pictures_alone : (drawn : List DrawnMap) → AreCellsOfPicturesAlone (map picture drawn)
+pictures_alone : (drawn : List DrawnMap) → CellsHaveNoHtmlButPictures (map picture drawn)
 pictures_alone [] = tt
 pictures_alone (one ∷ drawn) = ((inr (record { drawn = one; is = refl }), tt), pictures_alone drawn)
 
@@ -91,8 +91,8 @@ row_around_made before behind maps own its two cells =
     let pictures = map picture cells.drawn in
     same_made (ap (λ t. row_around before t behind) cells.are ∙ row_same before behind cells.drawn two cells.count)
     (block_made (Row overview_frame (before ++ (pictures ++ behind)))
-    (all_append HavePicturesAlone before (pictures ++ behind) (cells_alone own)
-    (all_append HavePicturesAlone pictures behind (pictures_alone cells.drawn) (cells_alone its))))
+    (all_append HaveNoHtmlButPictures before (pictures ++ behind) (cells_alone own)
+    (all_append HaveNoHtmlButPictures pictures behind (pictures_alone cells.drawn) (cells_alone its))))
 
 -- ---- what stands around the maps
 most_plain : (reach : Reach) → ArePlain (most_cell reach)

@@ -5,7 +5,7 @@ use Rattle.std.specs.List.{flat_map}
 use Rattle.std.proofs.lemmas.Bool.{false≢true}
 use Rattle.page_findings.specs.Joining.{joined}
 use Rattle.page_html.specs.Items.{Drawn, Item, Own}
-use Rattle.page_site.specs.MadeOfBlocks.{AreCellsOfPicturesAlone, HasPicturesAlone, HavePicturesAlone}
+use Rattle.page_site.specs.MadeOfBlocks.{CellsHaveNoHtmlButPictures, HasNoHtmlButPictures, HaveNoHtmlButPictures}
 
 abbrev pub has_no_picture : Item (List ℕ) → Bool
 has_no_picture (Own (Drawn image)) = false
@@ -87,24 +87,24 @@ pub cells_cons : {items : List (Item (List ℕ))} {cells : List (List (Item (Lis
 cells_cons {items = items} {cells = cells} own its = record { are = both (have_no_picture items) (cells_have_no_picture cells) own.are its.are }
 
 -- ---- they have no HTML
-item_alone : (item : Item (List ℕ)) → has_no_picture item ≡ true → HasPicturesAlone item
+item_alone : (item : Item (List ℕ)) → has_no_picture item ≡ true → HasNoHtmlButPictures item
 item_alone (Own (Drawn image)) is = absurd (false≢true is)
 item_alone item is = tt
 
-each_alone : (items : List (Item (List ℕ))) → have_no_picture items ≡ true → HavePicturesAlone items
+each_alone : (items : List (Item (List ℕ))) → have_no_picture items ≡ true → HaveNoHtmlButPictures items
 each_alone [] are = tt
 each_alone (item ∷ items) are =
     (item_alone item (first_of (has_no_picture item) (have_no_picture items) are), each_alone items (second_of (has_no_picture item) (have_no_picture items) are))
 
-each_cell_alone : (cells : List (List (Item (List ℕ)))) → cells_have_no_picture cells ≡ true → AreCellsOfPicturesAlone cells
+each_cell_alone : (cells : List (List (Item (List ℕ)))) → cells_have_no_picture cells ≡ true → CellsHaveNoHtmlButPictures cells
 each_cell_alone [] are = tt
 each_cell_alone (items ∷ cells) are = (
   each_alone items (first_of (have_no_picture items) (cells_have_no_picture cells) are),
   each_cell_alone cells (second_of (have_no_picture items) (cells_have_no_picture cells) are),
 )
 
-pub items_alone : {items : List (Item (List ℕ))} → ArePlain items → HavePicturesAlone items
+pub items_alone : {items : List (Item (List ℕ))} → ArePlain items → HaveNoHtmlButPictures items
 items_alone {items = items} plain = each_alone items plain.are
 
-pub cells_alone : {cells : List (List (Item (List ℕ)))} → ArePlainCells cells → AreCellsOfPicturesAlone cells
+pub cells_alone : {cells : List (List (Item (List ℕ)))} → ArePlainCells cells → CellsHaveNoHtmlButPictures cells
 cells_alone {cells = cells} plain = each_cell_alone cells plain.are

@@ -14,7 +14,7 @@ use Rattle.page_summary.specs.Header.{links}
 use Rattle.page_summary.specs.Overview.{legend}
 use Rattle.page_site.specs.Page.{IsPageOf}
 
--- an image of a network, its cells and how many of its addresses may what, which have no text of a site
+-- an image of a network, of its cells, and of how many of its addresses are of which class: none of these has a text of a site
 pub record IsImageBy (image_of : DrawnMap → List ℕ) (image : List ℕ) : Type 0 where
   pub drawn : DrawnMap
   pub is : image ≡ image_of drawn
@@ -27,37 +27,38 @@ IsPicture image = IsImageBy figure_image image ⊎ IsImageBy small_map image
 abbrev pub fixed_texts : List (List ℕ)
 fixed_texts = shapes ∷ links ∷ legend ∷ how_to_read ∷ []
 
--- a part has no HTML but that of a picture, and so have the parts of each of some cells
-abbrev pub HasPicturesAlone : Item (List ℕ) → Type 0
-HasPicturesAlone (Own (Drawn image)) = IsPicture image
-HasPicturesAlone item = Unit {0}
+-- what stands as HTML in a part, if anything does, is a picture: only `Drawn` is not escaped
+abbrev pub HasNoHtmlButPictures : Item (List ℕ) → Type 0
+HasNoHtmlButPictures (Own (Drawn image)) = IsPicture image
+HasNoHtmlButPictures item = Unit {0}
 
-abbrev pub HavePicturesAlone : List (Item (List ℕ)) → Type 0
-HavePicturesAlone items = AllByRecursion HasPicturesAlone items
+-- the same of parts, and of cells
+abbrev pub HaveNoHtmlButPictures : List (Item (List ℕ)) → Type 0
+HaveNoHtmlButPictures items = AllByRecursion HasNoHtmlButPictures items
 
-abbrev pub AreCellsOfPicturesAlone : List (List (Item (List ℕ))) → Type 0
-AreCellsOfPicturesAlone cells = AllByRecursion HavePicturesAlone cells
+abbrev pub CellsHaveNoHtmlButPictures : List (List (Item (List ℕ))) → Type 0
+CellsHaveNoHtmlButPictures cells = AllByRecursion HaveNoHtmlButPictures cells
 
 -- What stands as HTML in a block is one of the fixed texts or a picture. All other texts that a block is given are escaped.
 abbrev pub HasNoOtherHtml : Block (List ℕ) → Type 0
 HasNoOtherHtml (Head title) = Unit {0}
 HasNoOtherHtml (Start frame title) = Unit {0}
-HasNoOtherHtml (Row frame cells) = AreCellsOfPicturesAlone cells
-HasNoOtherHtml (MarkedRow is_marked frame cells) = AreCellsOfPicturesAlone cells
-HasNoOtherHtml (LineRow fs line is_marked frame cells) = AreCellsOfPicturesAlone cells
-HasNoOtherHtml (Facts frame facts) = AreCellsOfPicturesAlone facts
-HasNoOtherHtml (In element items) = HavePicturesAlone items
+HasNoOtherHtml (Row frame cells) = CellsHaveNoHtmlButPictures cells
+HasNoOtherHtml (MarkedRow is_marked frame cells) = CellsHaveNoHtmlButPictures cells
+HasNoOtherHtml (LineRow fs line is_marked frame cells) = CellsHaveNoHtmlButPictures cells
+HasNoOtherHtml (Facts frame facts) = CellsHaveNoHtmlButPictures facts
+HasNoOtherHtml (In element items) = HaveNoHtmlButPictures items
 HasNoOtherHtml (Alone tag) = Unit {0}
 HasNoOtherHtml (SystemStart fs) = Unit {0}
 HasNoOtherHtml (Fixed html) = Contains fixed_texts html
 
--- A text is that of blocks, which have no other HTML.
+-- A text is that of blocks in which no other HTML stands.
 pub record IsMadeOfBlocks (text : List ℕ) : Type 0 where
   pub blocks : List (Block (List ℕ))
   pub are : text ≡ page_html blocks
   pub own : AllByRecursion HasNoOtherHtml blocks
 
--- Every page that is printed is made of blocks. So it is made of the page's own bytes and of a site's texts, of which no character is markup.
+-- Every page that is printed is made of blocks. So it is made of the page's own bytes and of a site's texts, which are escaped.
 abbrev pub PrintedPagesAreMadeOfBlocks : Type 0
 PrintedPagesAreMadeOfBlocks =
     (heads : List Revision) (proposals : List Proposal) (word page : List ℕ) → IsPageOf heads proposals word page → IsMadeOfBlocks page
