@@ -32,10 +32,11 @@ abbrev pub HasNoHtmlButPictures : Item (List ℕ) → Type 0
 HasNoHtmlButPictures (Own (Drawn image)) = IsPicture image
 HasNoHtmlButPictures item = Unit {0}
 
--- the same of parts, and of cells
+-- the same of some parts
 abbrev pub HaveNoHtmlButPictures : List (Item (List ℕ)) → Type 0
 HaveNoHtmlButPictures items = AllByRecursion HasNoHtmlButPictures items
 
+-- and of the parts of cells
 abbrev pub CellsHaveNoHtmlButPictures : List (List (Item (List ℕ))) → Type 0
 CellsHaveNoHtmlButPictures cells = AllByRecursion HaveNoHtmlButPictures cells
 
