@@ -1,7 +1,18 @@
 mod Finding
+mod Made
+mod MadeFindings
+mod MadeLists
+mod MadeMaps
+mod MadeOverview
+mod MadePage
+mod MadePlaces
+mod MadeSummary
+mod MadeSystems
 pub mod OfSite
 mod Parts
 pub mod Pieces
+mod Plain
+mod PlainFindings
 mod Sites
 mod Waits
 mod Widening

@@ -10,3 +10,4 @@ pub mod PrivateWidening
 pub mod PrivateForeseenSites
 pub mod PrivatePage
 pub mod PrivateSections
+pub mod MadeOfBlocks

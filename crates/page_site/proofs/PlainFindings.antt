@@ -1,0 +1,83 @@
+-- The parts that tell of classes, and why lines stand out, have no picture.
+use Rattle.std.proofs.Common.{◌≡◌, ℕ, List, [], ◌∷◌, ◌++◌, Option, Some, None, codes, drop, length, refl, take}
+use Rattle.std.specs.Option.{option_copied}
+use Rattle.desk_exports.specs.declared.entry.Flavour.{Flavour}
+use Rattle.desk_exports.specs.declared.entry.Terms.{Terms}
+use Rattle.desk_server.specs.declared.wider_grant.WiderGrant.{WiderGrant}
+use Rattle.page_data.specs.declared.class.Class.{Class}
+use Rattle.page_data.specs.declared.class.Class.TheVariants.{Denied, ReadOnly, ReadWrite, RootKept}
+use Rattle.page_data.specs.declared.counts.Counts.{Counts}
+use Rattle.page_data.specs.declared.reasons.Level.{Level}
+use Rattle.page_data.specs.declared.reasons.Level.TheVariants.{Check, LookFirst}
+use Rattle.page_data.specs.declared.reasons.Reason.{Reason}
+use Rattle.page_data.specs.declared.reasons.Reason.TheVariants.{NoClient, NeverDecides, ForEverybodyReadOnly, ForEverybodyReadWrite, Wide, RootKeptForNetworks, RootKeptForNames, ServerGrantsMore, RepeatedClient}
+use Rattle.page_findings.specs.Badges.{badge_item, class_items, classes_items, level_item, measured_items, present}
+use Rattle.page_findings.specs.FindingWords.{colon, decide_words, deciding, finding_items, flavour_item, flavour_items, for_everybody, line_item, listed, reason_items, some_lines, wider}
+use Rattle.page_findings.specs.Joining.{comma}
+use Rattle.page_findings.specs.declared.badges.Measure.{Measure}
+use Rattle.page_findings.specs.declared.badges.Measure.TheVariants.{Count, Share}
+use Rattle.page_findings.specs.declared.finding_words.Finding.{Finding}
+use Rattle.page_html.specs.Items.{AndMore, Own, Words}
+use Rattle.page_site.proofs.Plain.{ArePlain, IsPlain, plain_append, plain_cons, plain_joined}
+
+pub badge_plain : (class : Class) → IsPlain (badge_item class)
+badge_plain Denied = record { is = refl }
+badge_plain ReadOnly = record { is = refl }
+badge_plain ReadWrite = record { is = refl }
+badge_plain RootKept = record { is = refl }
+
+pub level_plain : (level : Level) → IsPlain (level_item level)
+level_plain LookFirst = record { is = refl }
+level_plain Check = record { is = refl }
+
+pub comma_plain : IsPlain comma
+comma_plain = record { is = refl }
+
+class_plain : (measure : Measure) (counts : Counts) (class : Class) → ArePlain (class_items measure counts class)
+class_plain Count counts class = record { are = refl }
+class_plain Share counts class = plain_cons (badge_plain class) (record { are = refl })
+
+classes_plain : (measure : Measure) (counts : Counts) (classes : List Class) → ArePlain (classes_items measure counts classes)
+classes_plain measure counts [] = record { are = refl }
+classes_plain measure counts (first ∷ others) = plain_joined (class_items measure counts) comma comma_plain (class_plain measure counts) (first ∷ others)
+
+pub measured_plain : (measure : Measure) (counts : Counts) → ArePlain (measured_items measure counts)
+measured_plain measure counts = classes_plain measure counts (present counts)
+
+-- ---- reasons
+flavours_plain : (flavours : List Flavour) → ArePlain (flavour_items flavours)
+flavours_plain flavours = plain_joined flavour_item colon (record { is = refl }) (λ flavour. record { are = refl }) flavours
+
+everybody_plain : (access : List ℕ) (terms : Terms) → ArePlain (for_everybody access terms)
+everybody_plain access terms = record { are = (flavours_plain terms.flavours).are }
+
+some_lines_plain : (fs : ℕ) (lines : List ℕ) → ArePlain (some_lines fs lines)
+some_lines_plain fs lines =
+    let more : ArePlain (Own (AndMore (length (drop 6 lines))) ∷ []) = record { are = refl } in
+    plain_append (plain_joined (line_item fs) comma comma_plain (λ line. record { are = refl }) (take 6 lines)) more
+
+deciding_plain : (fs : ℕ) (lines : List ℕ) → ArePlain (deciding fs lines)
+deciding_plain fs lines =
+    let decide : ArePlain (Own (Words (decide_words (length lines))) ∷ []) = record { are = refl } in
+    record { are = (plain_append (some_lines_plain fs lines) decide).are }
+
+listed_plain : (directory : Option (List (List ℕ))) → ArePlain (listed directory)
+listed_plain (Some directory) = record { are = refl }
+listed_plain None = record { are = refl }
+
+wider_plain : (fs : ℕ) (found : WiderGrant) → ArePlain (wider fs found)
+wider_plain fs found = record { are = (listed_plain (option_copied found.directory)).are }
+
+reason_plain : (finding : Finding) (reason : Reason) → ArePlain (reason_items finding reason)
+reason_plain finding NoClient = record { are = refl }
+reason_plain finding NeverDecides = deciding_plain finding.fs.0 finding.deciding.now
+reason_plain finding ForEverybodyReadOnly = everybody_plain (codes "read-only") finding.terms.now
+reason_plain finding ForEverybodyReadWrite = everybody_plain (codes "read-write") finding.terms.now
+reason_plain finding Wide = record { are = refl }
+reason_plain finding RootKeptForNetworks = record { are = refl }
+reason_plain finding RootKeptForNames = record { are = refl }
+reason_plain finding (ServerGrantsMore found) = wider_plain finding.fs.0 found
+reason_plain finding (RepeatedClient found) = record { are = refl }
+
+pub finding_plain : (finding : Finding) → ArePlain (finding_items finding)
+finding_plain finding = plain_joined (reason_items finding) comma comma_plain (reason_plain finding) finding.reasons.now
