@@ -1,20 +1,19 @@
 -- The summary of the page is told in one way: each part depends on values alone.
-use Rattle.std.proofs.Common.{◌≡◌, ℕ, zero, suc, ◌+◌, ◌-◌, ◌^◌, ◌<◌, ◌==◌, ◌&&◌, ◌++◌, ◌∙◌, not, true, false, Bool, List, [], ◌∷◌, Option, Some, None, ap, arith, codes, get_or, is_none, length, map, not-suc-le-zero, option_copied, refl, sym, slice_get, subst, true≢false, unwrap_or}
+use Rattle.std.proofs.Common.{◌≡◌, ℕ, zero, suc, ◌+◌, ◌-◌, ◌^◌, ◌<◌, ◌==◌, ◌&&◌, ◌++◌, ◌∙◌, not, true, Bool, List, [], ◌∷◌, Option, Some, ap, arith, codes, get_or, is_none, length, map, not-suc-le-zero, refl, sym, slice_get, subst, true≢false, unwrap_or}
 use Rattle.std.specs.Prelude.{All, count_by}
 use Rattle.std.specs.List.{flat_map}
 use Rattle.std.proofs.lemmas.List.{ext_get_or, get_or-map, length-map}
 use Rattle.desk_core.specs.Listing.{HeldFile}
 use Rattle.desk_core.specs.Standing.{Standing}
-use Rattle.desk_core.specs.declared.head.Head.{Head}
 use Rattle.desk_core.specs.declared.proposal.Proposal.{Proposal}
 use Rattle.desk_policy.specs.Policy.{Content}
 use Rattle.desk_tables.specs.declared.filesystems.Mount.{Mount}
 use Rattle.desk_text.specs.Path.{path_text}
 use Rattle.desk_who.specs.Runs.{Run}
 use Rattle.page_data.specs.Counts.{granted_of}
-use Rattle.page_data.specs.Reasons.{is_first_level, level_of_all}
+use Rattle.page_data.specs.Reasons.{is_first_level}
 use Rattle.page_data.specs.Systems.{AreSystems, SystemValue}
-use Rattle.page_data.specs.Unique.{ReasonValue, ReasonsValue, WhatIsFoundIsUnique, reason_value, reasons_value}
+use Rattle.page_data.specs.Unique.{ReasonsValue, WhatIsFoundIsUnique, reason_value, reasons_value}
 use Rattle.page_data.specs.Values.{AreRunsOfSome}
 use Rattle.page_data.specs.declared.class.Class.{Class}
 use Rattle.page_data.specs.declared.lines.LineReasons.{LineReasons}
@@ -43,7 +42,7 @@ use Rattle.page_summary.specs.FlavoursTable.{cells, flavours_frame, flavours_tab
 use Rattle.page_summary.specs.Header as of_header
 use Rattle.page_summary.specs.KeyFigures.{AreKeyFigures}
 use Rattle.page_summary.specs.Overview.{any_row, in_force, keepers, legend, overview_start, row, row_around, rows, standing_out}
-use Rattle.page_summary.specs.Reaching.{IsReachOf, MaySomething, most_among}
+use Rattle.page_summary.specs.Reaching.{IsReachOf, MaySomething}
 use Rattle.page_summary.specs.State.{IsStateDigest, state_text}
 use Rattle.page_summary.specs.SystemRows.{AreOverviewRows, AreSystemRows, IsRowOf, OverviewRows, SiteParts, is_check_line, is_first_line, overview_text}
 use Rattle.page_summary.specs.UniqueLaws.{SummaryIsToldInOneWay, with_reasons}
