@@ -33,7 +33,7 @@ with_reasons site reasons = record {
 -- figures, one table of the flavours of lines, and one overview.
 pub record SummaryIsToldInOneWay : Type 0 where
   pub state : (standing : Standing) (digest other : List ℕ) → IsStateDigest standing digest → IsStateDigest standing other → digest ≡ other
-  pub header : (told other : Header) → told.database.now ≡ other.database.now → told.revisions ≡ other.revisions → told.files ≡ other.files
+  pub heading : (told other : Header) → told.database.now ≡ other.database.now → told.revisions ≡ other.revisions → told.files ≡ other.files
       → told.state.now ≡ other.state.now → header told ≡ header other
   pub figures : (content : Content) (lines others : List LineValue) (proposals : List Proposal) (counted other : Figures) → AreAlike lines others
       → AreKeyFigures content lines proposals counted → AreKeyFigures content others proposals other → counted ≡ other
