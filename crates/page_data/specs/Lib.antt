@@ -24,3 +24,4 @@ pub mod Lines
 pub mod PrivateLines
 pub mod Laws
 pub mod Opening
+pub mod Unique

@@ -3,8 +3,10 @@
 
 ghost use Rattle.std.specs.Prelude.{◌<◌, ◌^◌, All};
 ghost use Rattle.page_data.specs.Laws.{AlikePlacesAreDeniedAlike, ClassesAreUnique, CountsAddUp, GroupsAreAlikeThroughout, GroupsAreOfAlike, GroupsCanBeTabled, HaveNumbers, IdleLinesGrantNothing, IsSoundIfRead, MostIsOfSelected, OrdersTellVerdicts, RowsHoldEachAddressOnce, SectionGroupsAreGroups, TablesAddUp};
+ghost use Rattle.page_data.specs.Unique.{WhatIsFoundIsUnique};
 
 use crate::class::Class;
+use crate::opening::Opening;
 use desk_impact::places_tell_scope;
 use desk_policy::laws::{lines_have_directories, lines_write_their_own};
 use desk_policy::{Policy, Row, Verdict};
@@ -20,6 +22,15 @@ pub fn classes_are_unique()
     ensures { ClassesAreUnique }
 {
     runs_are_unique::<Class>();
+}
+
+/// What is found of a site is found in one way.
+pub fn what_is_found_is_unique()
+    ensures { WhatIsFoundIsUnique }
+{
+    runs_are_unique::<Class>();
+    runs_are_unique::<Verdict<'static>>();
+    runs_with_value_are_unique::<Opening>();
 }
 
 /// The most that a client may on a file system is what the terms of the selected lines come to.

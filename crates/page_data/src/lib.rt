@@ -35,7 +35,7 @@ pub use laws::{
     alike_places_are_denied_alike, classes_are_unique, counts_add_up, groups_are_alike_throughout,
     groups_are_of_alike, groups_can_be_tabled, idle_lines_grant_nothing, most_is_of_selected,
     orders_tell_verdicts, rows_hold_each_address_once, section_groups_are_groups, sites_are_sound,
-    tables_add_up,
+    tables_add_up, what_is_found_is_unique,
 };
 pub use lines::{LineReasons, reasons_of_lines};
 pub use opening::{Opening, openings_of_site};
