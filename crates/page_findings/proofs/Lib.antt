@@ -15,3 +15,6 @@ pub mod Told
 pub mod Kept
 pub mod Ordered
 pub mod Gathering
+pub mod OneSorting
+pub mod Alike
+pub mod Unique

@@ -11,3 +11,4 @@ pub mod PrivateDeciding
 pub mod Joining
 pub mod Badges
 pub mod FindingWords
+pub mod UniqueLaws

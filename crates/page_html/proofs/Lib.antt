@@ -6,6 +6,7 @@ mod Replaced
 pub mod CodesRead
 pub mod Gaining
 pub mod Gathered
+pub mod OneOrder
 pub mod Telling
 pub mod Markup
 pub mod Threes

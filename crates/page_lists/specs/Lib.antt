@@ -14,5 +14,6 @@ pub mod Ranges
 pub mod Reading
 pub mod Shell
 pub mod Tables
+pub mod UniqueLaws
 pub mod Uses
 pub mod Warnings

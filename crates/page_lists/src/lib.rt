@@ -29,7 +29,7 @@ pub mod warnings;
 pub use digests::text_digest;
 pub use files::{FileRow, push_files, push_files_of};
 pub use hosts::{HostKind, HostRow, push_hosts, push_hosts_of};
-pub use laws::{ranges_are_longest, shells_take_words};
+pub use laws::{lists_are_told_in_one_way, ranges_are_longest, shells_take_words};
 pub use making_again::push_make_again;
 pub use mentions::{Mention, some_parts};
 pub use name_index::{WrittenName, index_of_names};

@@ -11,6 +11,7 @@ pub mod FindingRows
 pub mod Proposals
 pub mod FlavoursRows
 pub mod Reaching
+pub mod UniqueLaws
 pub mod SystemRows
 pub mod SiteData
 pub mod SiteFinding

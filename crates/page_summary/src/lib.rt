@@ -26,6 +26,7 @@ pub mod sections;
 pub mod site_finding;
 pub mod state;
 pub mod system_rows;
+pub mod unique_laws;
 
 pub use amounts::revisions_and_files;
 pub use figures::{Figures, push_figures};
@@ -42,3 +43,4 @@ pub use sections::{Section, push_footer, push_section_end, push_section_start};
 pub use site_finding::{SiteFinding, site_findings};
 pub use state::state_digest;
 pub use system_rows::{SystemsData, push_overview_of};
+pub use unique_laws::summary_is_told_in_one_way;
