@@ -5,3 +5,6 @@ pub mod Pieces
 mod Sites
 mod Waits
 mod Widening
+mod UniqueFound
+mod UniqueSystems
+mod UniqueWaiting

@@ -8,6 +8,7 @@
 
 mod foreseen_sites;
 mod found_in_site;
+pub mod laws;
 pub mod page;
 mod sections;
 pub mod state_page;
@@ -15,6 +16,7 @@ mod system_parts;
 pub mod waiting_proposals;
 mod widening_proposals;
 
+pub use laws::systems_are_told_in_one_way;
 pub use page::{ReportedSite, report_page};
 pub use state_page::page_of_state;
 pub use waiting_proposals::{Outcome, Waiting};
