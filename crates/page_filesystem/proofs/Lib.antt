@@ -5,3 +5,5 @@ mod Between
 mod Each
 mod Noted
 pub mod Standing
+mod Again
+mod UniqueParts

@@ -13,3 +13,4 @@ pub mod Notes
 pub mod OwnLines
 pub mod OwnParts
 pub mod CountedShares
+pub mod UniqueLaws

@@ -21,5 +21,7 @@ mod Spans
 mod Summed
 mod Told
 mod Unique
+mod UniqueNetworks
+pub mod OneOrder
 pub mod Counting
 pub mod Alike

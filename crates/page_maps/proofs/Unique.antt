@@ -1,7 +1,7 @@
 -- The runs of a function of addresses leave one list of maps that are needed, and one map of each network.
-use Rattle.std.proofs.Common.{◌≡◌, ℕ, suc, ◌++◌, ◌∙◌, List, [], ◌∷◌, ap, arith, drop, get_or, inl, inr, length, map, refl, subst, sym, take}
-use Rattle.std.specs.Prelude.{All, Contains}
-use Rattle.std.specs.List.{AllPairs, flat_map}
+use Rattle.std.proofs.Common.{◌≡◌, ℕ, ◌++◌, ◌∙◌, List, [], ◌∷◌, ap, arith, drop, get_or, length, map, refl, subst, sym, take}
+use Rattle.std.specs.Prelude.{All}
+use Rattle.std.specs.List.{flat_map}
 use Rattle.std.proofs.lemmas.List.{ext_get_or}
 use Rattle.std.proofs.lemmas.List.Elements.{All-head, All-tail}
 use Rattle.desk_text.specs.Network.{Block, last_of}
@@ -14,80 +14,12 @@ use Rattle.page_data.specs.declared.counts.Counts.{Counts}
 use Rattle.page_data.proofs.Agreeing.{same_rank}
 use Rattle.page_maps.specs.Cells.{AreCells, AreLeastAndMost}
 use Rattle.page_maps.specs.Maps.{AreMaps, fixed_maps, maps_with_fixed}
-use Rattle.page_maps.specs.Order.{ComesBefore}
 use Rattle.page_maps.specs.declared.cells.Cell.{Cell}
-use Rattle.page_maps.proofs.Containing.{here, here_or_there, there}
+use Rattle.page_maps.proofs.OneOrder.{one_order}
 use Rattle.page_maps.specs.DrawnMaps.{AreDrawnFrom, IsDrawnFrom}
 use Rattle.page_maps.specs.Figures.{GainsFileSystemMaps, GainsGroupMaps, GainsMaps, GainsOverviewMaps, figures, most_of_file_system, most_of_group, small_cell}
 use Rattle.page_maps.specs.Laws.{MapsAreToldInOneWay}
 use Rattle.page_maps.specs.declared.drawn_maps.DrawnMap.{DrawnMap}
-
--- no network comes before itself, and of two only one before the other
-not_itself : (network other : Block) → ComesBefore network other → network ≡ other → ⊥
-not_itself network other before same =
-    let prefix : network.prefix ≡ other.prefix = ap (λ (n : Block). n.prefix) same in
-    let first : network.first ≡ other.first = ap (λ (n : Block). n.first) same in
-    elim before [
-      | inl less ↦ omega arith
-      | inr less ↦ (let l = less.1 in omega arith)
-    ]
-
-not_both : (network other : Block) → ComesBefore network other → ComesBefore other network → ⊥
-not_both network other before behind =
-    elim before [
-      | inl less ↦ elim behind [
-        | inl more ↦ omega arith
-        | inr more ↦ (let l = more.0 in omega arith)
-      ]
-      | inr less ↦
-          let p = less.0 in
-          let l = less.1 in
-          elim behind [
-            | inl more ↦ omega arith
-            | inr more ↦ (let m = more.1 in omega arith)
-          ]
-    ]
-
--- the first comes before each of the others, which are in order
-first_before : (x : Block) (xs : List Block) (y : Block) → AllPairs ComesBefore (x ∷ xs) → Contains xs y → ComesBefore x y
-first_before x xs y order has = (let lt = has.1 in subst (ComesBefore x) has.2 (order 0 (suc has.0) y (omega arith) (omega arith)))
-
-rest_in_order : (x : Block) (xs : List Block) → AllPairs ComesBefore (x ∷ xs) → AllPairs ComesBefore xs
-rest_in_order x xs order = λ i j d less within. order (suc i) (suc j) d (omega arith) (omega arith)
-
--- each of one list is one of the other
-abbrev AreAmong : List Block → List Block → Type 0
-AreAmong xs ys = (z : Block) → Contains xs z → Contains ys z
-
-rest_among : (x : Block) (xs ys : List Block) → AllPairs ComesBefore (x ∷ xs) → AreAmong (x ∷ xs) (x ∷ ys) → AreAmong xs ys
-rest_among x xs ys order among z has =
-    elim (here_or_there x z ys (among z (there x z xs has))) as (λ _. Contains ys z) [
-      | inl same ↦ absurd (not_itself x z (first_before x xs z order has) same)
-      | inr later ↦ later
-    ]
-
-first_same : (x : Block) (xs : List Block) (y : Block) (ys : List Block) → AllPairs ComesBefore (x ∷ xs) → AllPairs ComesBefore (y ∷ ys) → AreAmong (x ∷ xs) (y ∷ ys) → AreAmong (y ∷ ys) (x ∷ xs) → x ≡ y
-first_same x xs y ys order order' among among' =
-    elim (here_or_there y x ys (among x (here x x xs refl))) as (λ _. x ≡ y) [
-      | inl same ↦ sym same
-      | inr later ↦
-          elim (here_or_there x y xs (among' y (here y y ys refl))) as (λ _. x ≡ y) [
-            | inl same ↦ same
-            | inr later' ↦ absurd (not_both x y (first_before x xs y order later') (first_before y ys x order' later))
-          ]
-    ]
-
-one_order : (xs ys : List Block) → AllPairs ComesBefore xs → AllPairs ComesBefore ys → AreAmong xs ys → AreAmong ys xs → xs ≡ ys
-one_order [] [] order order' among among' = refl
-one_order [] (y ∷ ys) order order' among among' = absurd (let lt = (among' y (here y y ys refl)).1 in omega arith)
-one_order (x ∷ xs) [] order order' among among' = absurd (let lt = (among x (here x x xs refl)).1 in omega arith)
-one_order (x ∷ xs) (y ∷ ys) order order' among among' =
-    let same = first_same x xs y ys order order' among among' in
-    let own = subst (λ (z : Block). AreAmong (x ∷ xs) (z ∷ ys)) (sym same) among in
-    let its = subst (λ (z : Block). AreAmong (z ∷ ys) (x ∷ xs)) (sym same) among' in
-    let order'' = subst (λ (z : Block). AllPairs ComesBefore (z ∷ ys)) (sym same) order' in
-    ap (λ z. z ∷ xs) same
-    ∙ ap (λ zs. y ∷ zs) (one_order xs ys (rest_in_order x xs order) (rest_in_order x ys order'') (rest_among x xs ys order own) (rest_among x ys xs order'' its))
 
 module _ (class_at : ℕ → Class) where
   one_list : (maps others : List Block) → AreMaps class_at maps → AreMaps class_at others → maps ≡ others

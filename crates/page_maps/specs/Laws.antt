@@ -2,12 +2,14 @@
 use Rattle.std.specs.Prelude.{◌≡◌, ◌⊎◌, ◌↔◌, ℕ, ◌+◌, ◌-◌, ◌/◌, ◌%◌, ◌^◌, ◌<◌, ◌≤◌, ◌++◌, true, All, Contains, List, length, map}
 use Rattle.desk_text.specs.Network.{Block, IsBlock, covers, last_of}
 use Rattle.desk_who.specs.Runs.{AreRuns, Run}
+use Rattle.desk_policy.specs.Policy.{Content}
 use Rattle.page_data.specs.Values.{AreRunsOfSome}
 use Rattle.page_data.specs.declared.class.Class.{Class}
 use Rattle.page_maps.specs.Cells.{AreCells, cell_first, cell_last, cell_size}
 use Rattle.page_maps.specs.DrawnMaps.{IsDrawnFrom}
 use Rattle.page_maps.specs.Figures.{GainsFileSystemMaps, GainsGroupMaps, GainsOverviewMaps, count_of, figures}
 use Rattle.page_maps.specs.Maps.{AreMaps, IsNeeded, IsSeam, IsWide, maps_with_fixed}
+use Rattle.page_maps.specs.NetworkTable.{GainsNetworks}
 use Rattle.page_maps.specs.declared.cells.Cell.{Cell}
 use Rattle.page_maps.specs.declared.drawn_maps.DrawnMap.{DrawnMap}
 
@@ -93,3 +95,7 @@ pub record AreToldInOneWay (runs : List (Run Class)) : Type 0 where
 
 abbrev pub MapsAreToldInOneWay : Type 0
 MapsAreToldInOneWay = (runs : List (Run Class)) → AreRunsOfSome runs → AreToldInOneWay runs
+
+-- So is the table of the networks that lines write.
+abbrev pub NetworksAreToldInOneWay : Type 0
+NetworksAreToldInOneWay = (content : Content) → IsOneText (GainsNetworks content)

@@ -1,7 +1,7 @@
 -- What the networks that lines write may mount, on each file system. (this project's own)
 use Rattle.std.specs.Prelude.{◌≡◌, ℕ, ◌<◌, ◌^◌, ◌==◌, ◌&&◌, ◌∷◌, [], not, Bool, true, false, List, Option, Some, None, filter, length, slice_index_or, if◌then◌else◌}
 use Rattle.std.specs.List.{flat_map}
-use Rattle.desk_text.specs.Network.{Block, block_size, last_of}
+use Rattle.desk_text.specs.Network.{Block, IsBlock, block_size, last_of}
 use Rattle.desk_tables.specs.FileSystems.{fs_of}
 use Rattle.desk_tables.specs.declared.filesystems.FsId.{FsId}
 use Rattle.desk_policy.specs.Policy.{Content}
@@ -15,9 +15,10 @@ use Rattle.page_maps.specs.declared.networks.NetworkRow.{NetworkRow}
 use Rattle.page_maps.specs.declared.networks.SystemClass.{SystemClass}
 use Rattle.page_maps.specs.declared.networks.SystemCounts.{SystemCounts}
 
--- how many addresses of a network may what on a file system, given of each address the most that it may there
+-- how many addresses of a network, which has no host bits, may what on a file system, given of each address the most that it may there
 pub record IsCountedIn (content : Content) (network : Block) (fs : ℕ) (one : SystemCounts) : Type 0 where
   pub number : one.fs.0 ≡ fs
+  pub is_network : IsBlock network
   pub class_at : ℕ → Class
   pub most : (address : ℕ) → address < 2 ^ 32 → IsMostOn content (λ path. is_in (fs_of content.table path) fs) address (class_at address)
   pub are : AreCounts class_at network.first (last_of network) one.counts

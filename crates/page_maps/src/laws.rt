@@ -1,7 +1,7 @@
 //! What maps show, what a map has, and what is told of the maps that are needed, each law as a function that does nothing.
 
 ghost use Rattle.page_maps.specs.Grounds.{GroundsHaveJustTheCells};
-ghost use Rattle.page_maps.specs.Laws.{CellsCoverTheNetwork, MapsAreExactTogether, MapsAreToldInOneWay, NeededMapsAreTold, SeamsAreShown};
+ghost use Rattle.page_maps.specs.Laws.{CellsCoverTheNetwork, MapsAreExactTogether, MapsAreToldInOneWay, NeededMapsAreTold, NetworksAreToldInOneWay, SeamsAreShown};
 
 use desk_text::laws::covers_between_first_and_last;
 
@@ -35,4 +35,9 @@ pub fn needed_maps_are_told()
 /// Given the runs of a function of addresses, there is at most one text of its maps.
 pub fn maps_are_told_in_one_way()
     ensures { MapsAreToldInOneWay }
+{}
+
+/// There is at most one text of the table of the networks that lines write.
+pub fn networks_are_told_in_one_way()
+    ensures { NetworksAreToldInOneWay }
 {}

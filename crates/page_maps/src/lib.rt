@@ -32,7 +32,7 @@ pub use drawn_maps::{DrawnMap, drawn_map};
 pub use figures::{push_file_system_maps, push_group_maps, push_overview_maps};
 pub use laws::{
     cells_cover_the_network, grounds_have_just_the_cells, maps_are_exact_together,
-    maps_are_told_in_one_way, needed_maps_are_told, seams_are_shown,
+    maps_are_told_in_one_way, needed_maps_are_told, networks_are_told_in_one_way, seams_are_shown,
 };
 pub use line_networks::{written_in_site, written_networks};
 pub use maps::{maps_of, with_fixed_maps};

@@ -7,3 +7,6 @@ pub mod Homes
 pub mod Listed
 pub mod Opened
 pub mod WithLines
+mod StableSorts
+mod UniqueChanges
+mod UniqueGroups

@@ -15,3 +15,4 @@ pub mod PrivateChanges
 pub mod PrivateImpacts
 pub mod ChangeRows
 pub mod Widening
+pub mod UniqueLaws

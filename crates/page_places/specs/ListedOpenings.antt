@@ -2,7 +2,7 @@
 use Rattle.std.specs.Prelude.{◌≡◌, ℕ, ◌∷◌, ◌==◌, [], Bool, false, List, if◌then◌else◌, map}
 use Rattle.std.specs.Cmp.Lexicographic.{slice_cmp}
 use Rattle.std.specs.List.{dedup, flat_map, list_any}
-use Rattle.std.specs.List.Sorted.{IsPermutation, IsSortedByKey}
+use Rattle.std.specs.List.Sorted.{IsPermutation, IsSortedByKey, IsStableByKey}
 use Rattle.std.specs.Ordering.{nat_cmp}
 use Rattle.desk_text.specs.Address.{number_of}
 use Rattle.desk_text.specs.Path.{same_path}
@@ -42,11 +42,12 @@ abbrev pub same_denied : PlaceOpening → PlaceOpening → Bool
 same_denied one other = one.denied == other.denied
 
 -- Of what the server grants at these places, the first for each line that a denial names: that to the least address (of several places,
--- one of them).
+-- the first of them).
 pub record AreOpeningsOf (openings : List (PlaceFound Opening)) (places : List PlaceBreaches) (found : List PlaceOpening) : Type 0 where
   pub all : List PlaceOpening
   pub are_all : map opening_value all ≡ all_among places openings
   pub sorted : List PlaceOpening
   pub just : IsPermutation all sorted
   pub order : IsSortedByKey order_of (slice_cmp nat_cmp) sorted
+  pub stable : IsStableByKey order_of (slice_cmp nat_cmp) all sorted
   pub are : found ≡ dedup same_denied sorted

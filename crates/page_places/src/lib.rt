@@ -28,7 +28,7 @@ pub mod widening;
 pub use change_rows::{ChangeRow, push_changes};
 pub use changes::{Changes, changes_of};
 pub use groups::{GroupPart, push_group, push_groups};
-pub use laws::tables_have_sizes;
+pub use laws::{places_are_told_in_one_way, tables_have_sizes};
 pub use listed_laws::{changes_are_of_whole, listed_add_up};
 pub use listing::{ListedGroups, listed_groups};
 pub use lists::{push_groups_start, push_not_listed};

@@ -28,7 +28,7 @@ pub(crate) fn openings_of<'a>(
     ensures { IfOk result (λ found. AreOpeningsOf (map opening_section openings.now) (map section_value places.now) found.items) }
 {
     let mut found = all_among(alloc, openings, places)?;
-    found.sort_unstable_by_key(order_of);
+    found.sort_by_key(order_of)?;
     found.dedup_by(|one, last| one.denied == last.denied);
     Ok(found)
 }

@@ -16,3 +16,6 @@ mod PlainFindings
 mod Sites
 mod Waits
 mod Widening
+mod UniqueFound
+mod UniqueSystems
+mod UniqueWaiting

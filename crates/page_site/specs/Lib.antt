@@ -5,6 +5,7 @@ pub mod SystemParts
 pub mod WideningProposals
 pub mod Page
 pub mod Given
+pub mod UniqueLaws
 pub mod PrivateSystemParts
 pub mod PrivateWidening
 pub mod PrivateForeseenSites

@@ -9,6 +9,7 @@ use Rattle.desk_core.specs.Site.{site_in}
 use Rattle.desk_core.specs.Standing.{Standing, standing_in}
 use Rattle.desk_core.specs.declared.head.Head.{Head}
 use Rattle.desk_core.specs.declared.proposal.Proposal.{Proposal}
+use Rattle.page_data.specs.Laws.{IsSoundSite}
 use Rattle.page_data.specs.Opening.{AreOpenings}
 use Rattle.page_lists.specs.MakingAgain.{make_again}
 use Rattle.page_lists.specs.Reading.{how_to_read}
@@ -119,12 +120,13 @@ pub record IsSource (source : Source) : Type 0 where
   pub are_waiting : AreWaiting (newest_in source.heads) source.content source.proposals source.waiting
   pub are_openings : AreOpenings source.content source.openings
 
--- The page of newest revisions and proposals, for a word that names their database.
+-- The page of newest revisions and proposals, for a word that names their database; the policy that they write is sound.
 pub record IsPageOf (heads : List Head) (proposals : List Proposal) (word page : List ℕ) : Type 0 where
   pub source : Source
   pub heads_are : source.heads ≡ heads
   pub proposals_are : source.proposals ≡ proposals
   pub is_source : IsSource source
+  pub sound : IsSoundSite source.content
   pub found : Found
   pub is_found : IsFound source.content found
   pub widening : AreWidening source.content source.waiting found.widening

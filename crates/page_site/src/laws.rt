@@ -1,8 +1,27 @@
-//! What a page is made of, as a function that does nothing.
+//! What a page is made of, and that what it tells is told in one way, each law as a function that does nothing.
 
 ghost use Rattle.page_site.specs.MadeOfBlocks.{PrintedPagesAreMadeOfBlocks};
+ghost use Rattle.page_site.specs.UniqueLaws.{SystemsAreToldInOneWay};
+
+use page_data::{orders_tell_verdicts, what_is_found_is_unique};
+use page_filesystem::file_systems_are_told_in_one_way;
+use page_findings::lines_are_told_in_one_way;
+use page_maps::maps_are_told_in_one_way;
+use page_places::places_are_told_in_one_way;
 
 /// A page is made of blocks, in which only fixed texts and the pictures of maps stand as HTML: every text of a site is escaped.
 pub fn printed_pages_are_made_of_blocks()
     ensures { PrintedPagesAreMadeOfBlocks }
 {}
+
+/// What waits, by which of it clients may do more, and the parts on file systems are told in one way.
+pub fn systems_are_told_in_one_way()
+    ensures { SystemsAreToldInOneWay }
+{
+    places_are_told_in_one_way();
+    file_systems_are_told_in_one_way();
+    maps_are_told_in_one_way();
+    orders_tell_verdicts();
+    what_is_found_is_unique();
+    lines_are_told_in_one_way();
+}

@@ -25,6 +25,7 @@ returns g c =
       heads_are = refl;
       proposals_are = refl;
       is_source = c.requires.given.is;
+      sound = c.requires.given.sound;
       found = found_by (map system_value c.args.systems.items) beside lines;
       is_found = record {
         systems = c.requires.systems;
