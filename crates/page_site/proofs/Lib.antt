@@ -17,5 +17,6 @@ mod Sites
 mod Waits
 mod Widening
 mod UniqueFound
+mod UniquePage
 mod UniqueSystems
 mod UniqueWaiting

@@ -3,8 +3,9 @@
 use Rattle.std.specs.Prelude.{◌≡◌, ℕ, All, List, Ok}
 use Rattle.desk_policy.specs.Parsing.{read_site}
 use Rattle.desk_policy.specs.Policy.{Content}
-use Rattle.desk_core.specs.Head.{Newest}
+use Rattle.desk_core.specs.Head.{Newest, newest_in}
 use Rattle.desk_core.specs.Site.{site_in}
+use Rattle.desk_core.specs.declared.head.Head.{Head}
 use Rattle.desk_core.specs.declared.proposal.Proposal.{Proposal}
 use Rattle.page_data.specs.Laws.{IsSoundSite, TellVerdicts}
 use Rattle.page_data.specs.Systems.{AreSystems, SystemValue}
@@ -15,6 +16,7 @@ use Rattle.page_findings.specs.Lines.{AreReasonsOfSite}
 use Rattle.page_findings.specs.UniqueLaws.{AreAlike}
 use Rattle.page_summary.specs.Proposals.{ProposalValue}
 use Rattle.page_site.specs.FoundInSite.{AreDecidedOfSite, AreSmallMaps, Found, Source}
+use Rattle.page_site.specs.Page.{IsPageOf}
 use Rattle.page_site.specs.SystemParts.{AreSystemTexts}
 use Rattle.page_site.specs.WaitingProposals.{AreWaiting, Waiting}
 use Rattle.page_site.specs.WideningProposals.{AreWidening}
@@ -41,3 +43,9 @@ pub record SystemsAreToldInOneWay : Type 0 where
   pub texts : (source : Source) (found other : Found) (fs : ℕ) (systems : List SystemValue) (text second : List ℕ) → All HasOneText systems
       → AreAlike found.lines other.lines → found.decided ≡ other.decided → AreSystemTexts source found fs systems text → AreSystemTexts source other fs systems second
       → text ≡ second
+
+-- So the page is: if the newest revisions write this policy, there is at most one page of them, of these proposals and for this word.
+abbrev pub PagesAreToldInOneWay : Content → Type 0
+PagesAreToldInOneWay policy =
+    (heads : List Head) (proposals : List Proposal) (word page other : List ℕ) → read_site (site_in (newest_in heads)) ≡ Ok policy
+    → IsPageOf heads proposals word page → IsPageOf heads proposals word other → page ≡ other

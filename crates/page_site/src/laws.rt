@@ -1,13 +1,16 @@
 //! What a page is made of, and that what it tells is told in one way, each law as a function that does nothing.
 
 ghost use Rattle.page_site.specs.MadeOfBlocks.{PrintedPagesAreMadeOfBlocks};
-ghost use Rattle.page_site.specs.UniqueLaws.{SystemsAreToldInOneWay};
+ghost use Rattle.page_site.specs.UniqueLaws.{PagesAreToldInOneWay, SystemsAreToldInOneWay};
 
-use page_data::{orders_tell_verdicts, what_is_found_is_unique};
+use desk_policy::Policy;
+use page_data::{orders_tell_verdicts, sites_are_sound, what_is_found_is_unique};
 use page_filesystem::file_systems_are_told_in_one_way;
-use page_findings::lines_are_told_in_one_way;
-use page_maps::maps_are_told_in_one_way;
+use page_findings::{lines_are_told_in_one_way, read_lines_have_few_flavours};
+use page_lists::lists_are_told_in_one_way;
+use page_maps::{maps_are_told_in_one_way, networks_are_told_in_one_way};
 use page_places::places_are_told_in_one_way;
+use page_summary::summary_is_told_in_one_way;
 
 /// A page is made of blocks, in which only fixed texts and the pictures of maps stand as HTML: every text of a site is escaped.
 pub fn printed_pages_are_made_of_blocks()
@@ -24,4 +27,18 @@ pub fn systems_are_told_in_one_way()
     orders_tell_verdicts();
     what_is_found_is_unique();
     lines_are_told_in_one_way();
+}
+
+/// Two pages of one state and for one word have the same bytes. The policy that the newest revisions write is looked at, as a site's is.
+pub fn pages_are_told_in_one_way(policy: &Policy)
+    ensures { PagesAreToldInOneWay policy.now }
+{
+    sites_are_sound(policy);
+    lists_are_told_in_one_way();
+    summary_is_told_in_one_way();
+    lines_are_told_in_one_way();
+    read_lines_have_few_flavours();
+    networks_are_told_in_one_way();
+    what_is_found_is_unique();
+    systems_are_told_in_one_way();
 }

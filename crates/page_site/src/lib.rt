@@ -16,7 +16,9 @@ mod system_parts;
 pub mod waiting_proposals;
 mod widening_proposals;
 
-pub use laws::{printed_pages_are_made_of_blocks, systems_are_told_in_one_way};
+pub use laws::{
+    pages_are_told_in_one_way, printed_pages_are_made_of_blocks, systems_are_told_in_one_way,
+};
 pub use page::{ReportedSite, report_page};
 pub use state_page::page_of_state;
 pub use waiting_proposals::{Outcome, Waiting};
