@@ -1,10 +1,11 @@
 //! The files of a site, and their newest revisions.
 
-ghost use Rattle.std.specs.Prelude.{◌≡◌, ◌++◌, IfOk, OnOk, map};
-ghost use Rattle.std.specs.Option.{option_copied, option_map};
+ghost use Rattle.std.specs.Prelude.{◌≡◌, ◌++◌, IfOk, OnOk, Some, map};
+ghost use Rattle.std.specs.Option.{option_copied};
 ghost use Rattle.std.specs.String.{string_bytes};
 ghost use Rattle.desk_core.specs.Listing.{file_of};
 ghost use Rattle.desk_core.specs.Standing.{standing_in};
+ghost use Rattle.page_html.specs.Items.{Code};
 ghost use Rattle.page_html.specs.Parts.{item_of};
 ghost use Rattle.page_html.specs.Tables.{row_html, rows_html};
 ghost use Rattle.page_lists.specs.Files as spec;
@@ -136,19 +137,18 @@ fn push_rows(alloc: Global, rows: &[FileRow<'_>], page: &mut String) -> Result<(
 fn push_file(alloc: Global, row: &FileRow<'_>, page: &mut String) -> Result<(), AllocError>
     ensures { OnOk result (string_bytes page.new ≡ string_bytes page.old ++ row_html spec.frame (spec.cells (spec.row_value row.now))) }
 {
-    let newest = row.file.newest;
-    let remark = remark_of(row.file.proposal, row.is_unlisted);
+    let remark = remark_of(row);
     push_row(
         alloc,
         &FILES,
         &[
-            &[Part::Code(row.file.name())],
-            &[revision_of(newest)],
-            &[author_of(newest)],
-            &[approver_of(newest)],
-            &[profile_of(newest)],
-            &[size_of(newest)],
-            &[digest_of(newest, row.digest.as_str())],
+            &[name_of(row)],
+            &[revision_of(row)],
+            &[author_of(row)],
+            &[approver_of(row)],
+            &[profile_of(row)],
+            &[size_of(row)],
+            &[digest_of(row)],
             &remark,
         ],
         page,
@@ -162,89 +162,105 @@ fn dash<'a>() -> Part<'a>
     Part::Words("-")
 }
 
-/// Returns the number of a revision.
-fn revision_of<'a>(newest: Option<&'a Head>) -> Part<'a>
-    ensures { item_of result ≡ spec.revision (option_copied newest.entry) }
+/// Returns the name of a file.
+fn name_of<'a>(row: &'a FileRow<'_>) -> Part<'a>
+    ensures { item_of result ≡ Code (spec.row_value row.now).file }
 {
-    match newest {
+    Part::Code(row.file.name())
+}
+
+/// Returns the number of its newest revision.
+fn revision_of<'a>(row: &'a FileRow<'_>) -> Part<'a>
+    ensures { item_of result ≡ spec.revision (spec.row_value row.now).head }
+{
+    match row.file.newest {
         None => dash(),
         Some(head) => number_of(head.rev),
     }
 }
 
 /// Returns who wrote it.
-fn author_of<'a>(newest: Option<&'a Head>) -> Part<'a>
-    ensures { item_of result ≡ spec.author (option_copied newest.entry) }
+fn author_of<'a>(row: &'a FileRow<'_>) -> Part<'a>
+    ensures { item_of result ≡ spec.author (spec.row_value row.now).head }
 {
-    match newest {
+    match row.file.newest {
         None => dash(),
         Some(head) => Part::Code(head.author.as_str()),
     }
 }
 
 /// Returns who approved it, if somebody did.
-fn approver_of<'a>(newest: Option<&'a Head>) -> Part<'a>
-    ensures { item_of result ≡ spec.approver (option_copied newest.entry) }
+fn approver_of<'a>(row: &'a FileRow<'_>) -> Part<'a>
+    ensures { item_of result ≡ spec.approver (spec.row_value row.now).head }
 {
-    match newest {
+    match row.file.newest {
         None => dash(),
-        Some(head) => name_or_dash(head.approver.as_ref()),
+        Some(head) => approver_or_dash(head),
     }
 }
 
-/// Returns a name, if there is one.
-fn name_or_dash<'a>(name: Option<&'a Text>) -> Part<'a>
-    ensures { item_of result ≡ spec.name_or_dash (option_copied name.entry) }
+/// Returns who approved a revision, if somebody did.
+fn approver_or_dash<'a>(head: &'a Head) -> Part<'a>
+    ensures { item_of result ≡ spec.name_or_dash head.now.approver }
 {
-    match name {
+    match &head.approver {
         None => dash(),
         Some(name) => Part::Code(name.as_str()),
     }
 }
 
 /// Returns the profile by which it is read, if it is that of an exports file.
-fn profile_of<'a>(newest: Option<&'a Head>) -> Part<'a>
-    ensures { item_of result ≡ spec.profile (option_copied newest.entry) }
+fn profile_of<'a>(row: &'a FileRow<'_>) -> Part<'a>
+    ensures { item_of result ≡ spec.profile (spec.row_value row.now).head }
 {
-    match newest {
-        Some(head) if !SiteFile::is_name(head.file.as_str()) => {
-            Part::Digits(head.profile.number())
-        }
-        _ => dash(),
+    match row.file.newest {
+        None => dash(),
+        Some(head) => profile_or_dash(head),
+    }
+}
+
+/// Returns the profile of a revision, if it is that of an exports file.
+fn profile_or_dash<'a>(head: &'a Head) -> Part<'a>
+    ensures { item_of result ≡ spec.profile (Some head.now) }
+{
+    if SiteFile::is_name(head.file.as_str()) {
+        dash()
+    } else {
+        Part::Digits(head.profile.number())
     }
 }
 
 /// Returns how many bytes its text has.
-fn size_of<'a>(newest: Option<&'a Head>) -> Part<'a>
-    ensures { item_of result ≡ spec.size (option_copied newest.entry) }
+fn size_of<'a>(row: &'a FileRow<'_>) -> Part<'a>
+    ensures { item_of result ≡ spec.size (spec.row_value row.now).head }
 {
-    match newest {
+    match row.file.newest {
         None => dash(),
         Some(head) => Part::Number(head.body.as_str().len() as u64),
     }
 }
 
 /// Returns the digest of its text.
-fn digest_of<'a>(newest: Option<&'a Head>, digest: &'a str) -> Part<'a>
-    ensures { item_of result ≡ spec.digest (option_copied newest.entry) digest.now }
+fn digest_of<'a>(row: &'a FileRow<'_>) -> Part<'a>
+    ensures { item_of result ≡ spec.digest (spec.row_value row.now).head (spec.row_value row.now).digest }
 {
-    match newest {
+    match row.file.newest {
         None => dash(),
-        Some(_) => Part::Digest(digest),
+        Some(_) => Part::Digest(row.digest.as_str()),
     }
 }
 
 /// Returns what is remarkable of a file.
-fn remark_of<'a>(proposal: Option<&'a Proposal>, is_unlisted: bool) -> [Part<'a>; 3]
-    ensures { map item_of result ≡ spec.remark (option_map (λ one. one.author) (option_copied proposal.entry)) is_unlisted }
+fn remark_of<'a>(row: &'a FileRow<'_>) -> [Part<'a>; 3]
+    ensures { map item_of result ≡ spec.remark (spec.row_value row.now).proposer row.now.is_unlisted }
 {
-    match proposal {
+    match row.file.proposal {
         None => [
-            unlisted_or(is_unlisted, "unlisted", "-"),
+            unlisted_or(row.is_unlisted, "unlisted", "-"),
             Part::Nothing,
             Part::Nothing,
         ],
-        Some(proposal) => proposed_by(&proposal.author, is_unlisted),
+        Some(proposal) => proposed_by(&proposal.author, row.is_unlisted),
     }
 }
 

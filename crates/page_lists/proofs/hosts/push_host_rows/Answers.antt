@@ -1,3 +1,4 @@
+use Rattle.std.proofs.Common.{◌++◌, ◌∙◌, ap}
 use Rattle.std.specs.String.{string_bytes}
 use Rattle.page_html.proofs.Gathered.{writes_values}
 use Rattle.page_html.specs.Tables.{row_html}
@@ -6,6 +7,7 @@ use Rattle.page_lists.proofs.hosts.push_host_rows.Goals as goal
 
 pub loop-row-preserved : goal.loop-row-preserved
 loop-row-preserved c =
-    writes_values host c.args.rows.now c.loop-row.row-index _ (row_html host_frame) (string_bytes c.args.page.now) (string_bytes c.loop-row.page)
+    let now = string_bytes c.loop-row.page in
+    writes_values host c.args.rows.now c.loop-row.row-index c.row-item.result (row_html host_frame) (string_bytes c.args.page.now) now
     (string_bytes c.push_host.new.page) c.loop-row-test.true c.loop-row.invariant
-    c.in_ok-push_host.ensures
+    (c.in_ok-push_host.ensures ∙ ap (λ row. now ++ row_html host_frame (host row)) c.row-item.is)
