@@ -1,7 +1,6 @@
 -- The files of a site, and their newest revisions. (this project's own)
 use Rattle.std.specs.Prelude.{◌≡◌, ℕ, Bool, not, List, [], ◌∷◌, ◌++◌, Option, Some, None, codes, length, map, true, if◌then◌else◌}
 use Rattle.std.specs.Option.{option_map}
-use Rattle.std.specs.String.{string_bytes}
 use Rattle.desk_core.specs.Head.{Revision}
 use Rattle.desk_core.specs.Judging.{is_known}
 use Rattle.desk_core.specs.Listing.{AreHeldFiles, HeldFile, file_of, name_of}
@@ -95,7 +94,7 @@ row_with file digest is_unlisted = record {
 }
 
 abbrev pub row_value : FileRow → RowValue
-row_value row = row_with (file_of row.file) (string_bytes row.digest) row.is_unlisted
+row_value row = row_with (file_of row.file) row.digest.now row.is_unlisted
 
 -- the cells of a row: its name, what is told of its newest revision, if it has one, and what is remarkable
 abbrev pub cells : RowValue → List (List (Item (List ℕ)))

@@ -6,6 +6,7 @@ pub mod MakingAgain
 pub mod Mentions
 pub mod NameIndex
 pub mod Netgroups
+pub mod PrivateFiles
 pub mod PrivateHosts
 pub mod Ranges
 pub mod Reading

@@ -1,14 +1,14 @@
 //! The files of a site, and their newest revisions.
 
-ghost use Rattle.std.specs.Prelude.{◌≡◌, ◌++◌, IfOk, OnOk, Some, map};
-ghost use Rattle.std.specs.Option.{option_copied};
+ghost use Rattle.std.specs.Prelude.{◌≡◌, ◌++◌, IfOk, OnOk, map};
+ghost use Rattle.std.specs.Option.{option_copied, option_map};
 ghost use Rattle.std.specs.String.{string_bytes};
 ghost use Rattle.desk_core.specs.Listing.{file_of};
 ghost use Rattle.desk_core.specs.Standing.{standing_in};
-ghost use Rattle.page_html.specs.Items.{Code};
 ghost use Rattle.page_html.specs.Parts.{item_of};
 ghost use Rattle.page_html.specs.Tables.{row_html, rows_html};
 ghost use Rattle.page_lists.specs.Files as spec;
+ghost use Rattle.page_lists.specs.PrivateFiles.{digested_row};
 
 use crate::digests::text_digest;
 use crate::tables::{number_of, push_long_end, push_long_start};
@@ -40,11 +40,19 @@ const FILES: Frame = Frame {
 
 /// A file that has a revision or a proposal, with the digest of the text of its newest revision, and whether it is the exports file of no
 /// file system that is listed.
-#[derive(Drop)]
+#[derive(Clone, Copy)]
 pub struct FileRow<'a> {
     pub file: HeldFile<'a>,
-    pub digest: String,
+    pub digest: &'a str,
     pub is_unlisted: bool,
+}
+
+/// The same, as it is made.
+#[derive(Drop)]
+struct DigestedFile<'a> {
+    file: HeldFile<'a>,
+    digest: String,
+    is_unlisted: bool,
 }
 
 /// Adds the table of the files that have one of these newest revisions or proposals, where these file systems are listed.
@@ -58,36 +66,37 @@ pub fn push_files_of(
     ensures { OnOk result (spec.AddsFiles filesystems.now (standing_in heads.now proposals.now) (string_bytes page.old) (string_bytes page.new)) }
 {
     let files = held_files(alloc, heads, proposals)?;
-    let rows = file_rows(alloc, filesystems, files.as_slice())?;
+    let digested = digested_files(alloc, filesystems, files.as_slice())?;
+    let rows = file_rows(alloc, digested.as_slice())?;
     push_files(alloc, rows.as_slice(), page)
 }
 
-/// Makes the rows of files.
-fn file_rows<'a>(
+/// Makes the digests of the texts of files.
+fn digested_files<'a>(
     alloc: Global,
     filesystems: &FileSystems,
     files: &[HeldFile<'a>],
-) -> Result<Vec<FileRow<'a>>, AllocError>
-    ensures { IfOk result (λ rows. map spec.row_value rows.items ≡ map (spec.row_of filesystems.now) (map file_of files.now)) }
+) -> Result<Vec<DigestedFile<'a>>, AllocError>
+    ensures { IfOk result (λ digested. map digested_row digested.items ≡ map (spec.row_of filesystems.now) (map file_of files.now)) }
 {
-    let mut rows = Vec::new(alloc);
+    let mut digested = Vec::new(alloc);
     for file in files {
-        rows.push(file_row(alloc, filesystems, *file)?)?;
+        digested.push(digested_file(alloc, filesystems, *file)?)?;
     }
-    Ok(rows)
+    Ok(digested)
 }
 
-/// Makes the row of a file.
-fn file_row<'a>(
+/// Makes the digest of the text of a file.
+fn digested_file<'a>(
     alloc: Global,
     filesystems: &FileSystems,
     file: HeldFile<'a>,
-) -> Result<FileRow<'a>, AllocError>
-    ensures { IfOk result (λ row. spec.row_value row ≡ spec.row_of filesystems.now (file_of file.entry)) }
+) -> Result<DigestedFile<'a>, AllocError>
+    ensures { IfOk result (λ digested. digested_row digested ≡ spec.row_of filesystems.now (file_of file.entry)) }
 {
     let digest = newest_digest(alloc, file.newest)?;
     let is_unlisted = !is_known(filesystems, file.name());
-    Ok(FileRow {
+    Ok(DigestedFile {
         file,
         digest,
         is_unlisted,
@@ -101,6 +110,31 @@ fn newest_digest(alloc: Global, newest: Option<&Head>) -> Result<String, AllocEr
     match newest {
         None => Ok(String::new(alloc)),
         Some(head) => text_digest(alloc, head.body.as_str()),
+    }
+}
+
+/// Makes the rows of files.
+fn file_rows<'b>(
+    alloc: Global,
+    files: &'b [DigestedFile<'_>],
+) -> Result<Vec<FileRow<'b>>, AllocError>
+    ensures { IfOk result (λ rows. map spec.row_value rows.items ≡ map digested_row files.now) }
+{
+    let mut rows = Vec::new(alloc);
+    for file in files {
+        rows.push(file_row(file))?;
+    }
+    Ok(rows)
+}
+
+/// Makes the row of a file.
+fn file_row<'b>(digested: &'b DigestedFile<'_>) -> FileRow<'b>
+    ensures { spec.row_value result ≡ digested_row digested.now }
+{
+    FileRow {
+        file: digested.file,
+        digest: digested.digest.as_str(),
+        is_unlisted: digested.is_unlisted,
     }
 }
 
@@ -137,18 +171,19 @@ fn push_rows(alloc: Global, rows: &[FileRow<'_>], page: &mut String) -> Result<(
 fn push_file(alloc: Global, row: &FileRow<'_>, page: &mut String) -> Result<(), AllocError>
     ensures { OnOk result (string_bytes page.new ≡ string_bytes page.old ++ row_html spec.frame (spec.cells (spec.row_value row.now))) }
 {
-    let remark = remark_of(row);
+    let newest = row.file.newest;
+    let remark = remark_of(row.file.proposal, row.is_unlisted);
     push_row(
         alloc,
         &FILES,
         &[
-            &[name_of(row)],
-            &[revision_of(row)],
-            &[author_of(row)],
-            &[approver_of(row)],
-            &[profile_of(row)],
-            &[size_of(row)],
-            &[digest_of(row)],
+            &[Part::Code(row.file.name())],
+            &[revision_of(newest)],
+            &[author_of(newest)],
+            &[approver_of(newest)],
+            &[profile_of(newest)],
+            &[size_of(newest)],
+            &[digest_of(newest, row.digest)],
             &remark,
         ],
         page,
@@ -162,105 +197,89 @@ fn dash<'a>() -> Part<'a>
     Part::Words("-")
 }
 
-/// Returns the name of a file.
-fn name_of<'a>(row: &'a FileRow<'_>) -> Part<'a>
-    ensures { item_of result ≡ Code (spec.row_value row.now).file }
+/// Returns the number of a revision.
+fn revision_of<'a>(newest: Option<&'a Head>) -> Part<'a>
+    ensures { item_of result ≡ spec.revision (option_copied newest.entry) }
 {
-    Part::Code(row.file.name())
-}
-
-/// Returns the number of its newest revision.
-fn revision_of<'a>(row: &'a FileRow<'_>) -> Part<'a>
-    ensures { item_of result ≡ spec.revision (spec.row_value row.now).head }
-{
-    match row.file.newest {
+    match newest {
         None => dash(),
         Some(head) => number_of(head.rev),
     }
 }
 
 /// Returns who wrote it.
-fn author_of<'a>(row: &'a FileRow<'_>) -> Part<'a>
-    ensures { item_of result ≡ spec.author (spec.row_value row.now).head }
+fn author_of<'a>(newest: Option<&'a Head>) -> Part<'a>
+    ensures { item_of result ≡ spec.author (option_copied newest.entry) }
 {
-    match row.file.newest {
+    match newest {
         None => dash(),
         Some(head) => Part::Code(head.author.as_str()),
     }
 }
 
 /// Returns who approved it, if somebody did.
-fn approver_of<'a>(row: &'a FileRow<'_>) -> Part<'a>
-    ensures { item_of result ≡ spec.approver (spec.row_value row.now).head }
+fn approver_of<'a>(newest: Option<&'a Head>) -> Part<'a>
+    ensures { item_of result ≡ spec.approver (option_copied newest.entry) }
 {
-    match row.file.newest {
+    match newest {
         None => dash(),
-        Some(head) => approver_or_dash(head),
+        Some(head) => name_or_dash(head.approver.as_ref()),
     }
 }
 
-/// Returns who approved a revision, if somebody did.
-fn approver_or_dash<'a>(head: &'a Head) -> Part<'a>
-    ensures { item_of result ≡ spec.name_or_dash head.now.approver }
+/// Returns a name, if there is one.
+fn name_or_dash<'a>(name: Option<&'a Text>) -> Part<'a>
+    ensures { item_of result ≡ spec.name_or_dash (option_copied name.entry) }
 {
-    match &head.approver {
+    match name {
         None => dash(),
         Some(name) => Part::Code(name.as_str()),
     }
 }
 
 /// Returns the profile by which it is read, if it is that of an exports file.
-fn profile_of<'a>(row: &'a FileRow<'_>) -> Part<'a>
-    ensures { item_of result ≡ spec.profile (spec.row_value row.now).head }
+fn profile_of<'a>(newest: Option<&'a Head>) -> Part<'a>
+    ensures { item_of result ≡ spec.profile (option_copied newest.entry) }
 {
-    match row.file.newest {
-        None => dash(),
-        Some(head) => profile_or_dash(head),
-    }
-}
-
-/// Returns the profile of a revision, if it is that of an exports file.
-fn profile_or_dash<'a>(head: &'a Head) -> Part<'a>
-    ensures { item_of result ≡ spec.profile (Some head.now) }
-{
-    if SiteFile::is_name(head.file.as_str()) {
-        dash()
-    } else {
-        Part::Digits(head.profile.number())
+    match newest {
+        Some(head) if !SiteFile::is_name(head.file.as_str()) => {
+            Part::Digits(head.profile.number())
+        }
+        _ => dash(),
     }
 }
 
 /// Returns how many bytes its text has.
-fn size_of<'a>(row: &'a FileRow<'_>) -> Part<'a>
-    ensures { item_of result ≡ spec.size (spec.row_value row.now).head }
+fn size_of<'a>(newest: Option<&'a Head>) -> Part<'a>
+    ensures { item_of result ≡ spec.size (option_copied newest.entry) }
 {
-    match row.file.newest {
+    match newest {
         None => dash(),
         Some(head) => Part::Number(head.body.as_str().len() as u64),
     }
 }
 
 /// Returns the digest of its text.
-fn digest_of<'a>(row: &'a FileRow<'_>) -> Part<'a>
-    ensures { item_of result ≡ spec.digest (spec.row_value row.now).head (spec.row_value row.now).digest }
+fn digest_of<'a>(newest: Option<&'a Head>, digest: &'a str) -> Part<'a>
+    ensures { item_of result ≡ spec.digest (option_copied newest.entry) digest.now }
 {
-    match row.file.newest {
+    match newest {
         None => dash(),
-        Some(_) => Part::Digest(row.digest.as_str()),
+        Some(_) => Part::Digest(digest),
     }
 }
 
 /// Returns what is remarkable of a file.
-fn remark_of<'a>(row: &'a FileRow<'_>) -> [Part<'a>; 3]
-    ensures { map item_of result ≡ spec.remark (spec.row_value row.now).proposer row.now.is_unlisted }
+fn remark_of<'a>(proposal: Option<&'a Proposal>, is_unlisted: bool) -> [Part<'a>; 3]
+    ensures { map item_of result ≡ spec.remark (option_map (λ one. one.author) (option_copied proposal.entry)) is_unlisted }
 {
-    match row.file.proposal {
+    match proposal {
         None => [
-            unlisted_or(row.is_unlisted, "unlisted", "-"),
+            unlisted_or(is_unlisted, "unlisted", "-"),
             Part::Nothing,
             Part::Nothing,
         ],
-        Some(proposal) => proposed_by(&proposal.author, row.is_unlisted),
+        Some(proposal) => proposed_by(&proposal.author, is_unlisted),
     }
 }
 
