@@ -3,4 +3,5 @@ pub mod Rowed
 pub mod Standing
 pub mod Looking
 pub mod Deciders
+pub mod Sharing
 mod Revisions
