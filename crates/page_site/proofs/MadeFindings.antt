@@ -2,17 +2,17 @@
 use Rattle.std.proofs.Common.{◌≡◌, ℕ, ◌-◌, ◌==◌, List, [], ◌∷◌, ◌++◌, codes, drop, length, refl, take}
 use Rattle.std.specs.Prelude.{count_by, nat_le}
 use Rattle.page_data.specs.Reasons.{level_of_all}
-use Rattle.page_html.specs.Items.{Break, Line, Link, Number, Own, PartOf, Plural, Words}
+use Rattle.page_html.specs.Items.{AndMore, Break, Line, Link, Number, Own, Plural, Words}
 use Rattle.page_html.specs.Tables.{Frame}
 use Rattle.page_html.specs.Titles.{Said}
 use Rattle.page_html.specs.declared.blocks.Element.TheVariants.{Fold, Paragraph}
-use Rattle.page_html.specs.declared.blocks.Tag.TheVariants.{FoldEnd}
-use Rattle.page_summary.specs.FindingRows.{findings_text}
-use Rattle.page_summary.specs.Findings.{cells, counts, findings_frame, fold_start, folded_rows, is_first_row, more_frame, no_finding, open_and_folded, open_rows, table, what}
+use Rattle.page_html.specs.declared.blocks.Tag.TheVariants.{FoldEnd, TableEnd}
+use Rattle.page_summary.specs.FindingRows.{FindingTable, findings_text}
+use Rattle.page_summary.specs.Findings.{cells, counts, findings_frame, fold_start, folded_rows, is_first_row, lines_html, more_frame, no_finding, open_and_folded, open_rows, place, places, shared, table, what}
 use Rattle.page_summary.specs.declared.findings.FindingRow.{FindingRow}
 use Rattle.page_site.specs.MadeOfBlocks.{IsMadeOfBlocks}
-use Rattle.page_site.proofs.Made.{append_made, element_made, if_made, table_made, tag_made}
-use Rattle.page_site.proofs.Plain.{ArePlain, ArePlainCells, cells_cons, plain_append, plain_cons}
+use Rattle.page_site.proofs.Made.{append_made, each_made, element_made, if_made, nothing_made, row_made, start_made, tag_made}
+use Rattle.page_site.proofs.Plain.{ArePlain, ArePlainCells, cells_cons, either_plain, parts, plain_append, plain_cons, plain_joined}
 use Rattle.page_site.proofs.PlainFindings.{finding_plain, level_plain}
 
 counts_made : (first others : ℕ) → IsMadeOfBlocks (counts first others)
@@ -22,36 +22,53 @@ counts_made first others =
     ∷ Own (Words (codes " to check. These are fixed rules over the lines (")) ∷ Own (Link (codes "read") (codes "below"))
     ∷ Own (Words (codes "); what the site intends they do not know.")) ∷ []) (record { are = refl })
 
-what_plain : (row : FindingRow) → ArePlain (what row)
-what_plain row =
-    let line : ArePlain (Own Break ∷ Line row.text.now ∷ []) = record { are = refl } in
-    plain_append (finding_plain row.finding) line
+-- ---- a row
+places_plain : (lines : List FindingRow) → ArePlain (places lines)
+places_plain lines =
+    let more : ArePlain (Own (AndMore (length (drop 4 lines))) ∷ []) = record { are = refl } in
+    plain_append (plain_joined place (Own Break) (record { is = refl }) (λ line. record { are = refl }) (take 4 lines)) more
 
-cells_plain : (row : FindingRow) → ArePlainCells (cells row)
-cells_plain row =
-    let behind : ArePlainCells (what row ∷ (Own (PartOf row.count 4294967296) ∷ []) ∷ []) = cells_cons (what_plain row) (record { are = refl }) in
-    cells_cons (plain_cons (level_plain (level_of_all row.finding.reasons.now)) (record { are = refl })) (record { are = behind.are })
+shared_plain : (count : ℕ) → ArePlain (shared count)
+shared_plain count =
+    either_plain (count == 1) (parts [] refl)
+    (parts (Own Break ∷ Own (Number count) ∷ Own (Words (codes " lines for the same names, the first of them:")) ∷ []) refl)
 
-finding_table_made : (frame : Frame) (title : List ℕ) (rows : List FindingRow) → IsMadeOfBlocks (table frame title rows)
-finding_table_made frame title rows = table_made frame (Said title ∷ []) cells cells_plain rows
+what_plain : (first : FindingRow) (count : ℕ) → ArePlain (what first count)
+what_plain first count =
+    let line : ArePlain (Own Break ∷ Line first.text.now ∷ []) = record { are = refl } in
+    plain_append (plain_append (finding_plain first.finding) (shared_plain count)) line
 
-open_made : (rows : List FindingRow) → IsMadeOfBlocks (open_rows rows)
+cells_plain : (first : FindingRow) (lines : List FindingRow) → ArePlainCells (cells first lines)
+cells_plain first lines =
+    cells_cons (plain_cons (level_plain (level_of_all first.finding.reasons.now)) (parts [] refl))
+    (cells_cons (places_plain lines) (cells_cons (what_plain first (length lines)) (record { are = refl })))
+
+-- ---- the table
+lines_made : (frame : Frame) (lines : List FindingRow) → IsMadeOfBlocks (lines_html frame lines)
+lines_made frame [] = nothing_made
+lines_made frame (first ∷ others) = row_made frame (cells first (first ∷ others)) (cells_plain first (first ∷ others))
+
+finding_table_made : (frame : Frame) (title : List ℕ) (rows : List (List FindingRow)) → IsMadeOfBlocks (table frame title rows)
+finding_table_made frame title rows =
+    append_made (append_made (start_made frame (Said title ∷ [])) (each_made (lines_html frame) (lines_made frame) rows)) (tag_made TableEnd)
+
+open_made : (rows : List (List FindingRow)) → IsMadeOfBlocks (open_rows rows)
 open_made rows = finding_table_made findings_frame (codes "Lines that stand out") rows
 
 fold_start_made : (count : ℕ) → IsMadeOfBlocks (fold_start count)
-fold_start_made count = element_made Fold (Own (Plural count (codes "more line") (codes "more lines")) ∷ []) (record { are = refl })
+fold_start_made count = element_made Fold (Own (Plural count (codes "more row") (codes "more rows")) ∷ []) (record { are = refl })
 
-folded_made : (rows : List FindingRow) → IsMadeOfBlocks (folded_rows rows)
+folded_made : (rows : List (List FindingRow)) → IsMadeOfBlocks (folded_rows rows)
 folded_made rows =
     append_made (append_made (fold_start_made (length rows)) (finding_table_made more_frame (codes "More lines that stand out") rows)) (tag_made FoldEnd)
 
-open_and_folded_made : (rows : List FindingRow) → IsMadeOfBlocks (open_and_folded rows)
+open_and_folded_made : (rows : List (List FindingRow)) → IsMadeOfBlocks (open_and_folded rows)
 open_and_folded_made rows = if_made (nat_le (length rows) 24) (open_made rows) (append_made (open_made (take 24 rows)) (folded_made (drop 24 rows)))
 
 no_finding_made : IsMadeOfBlocks no_finding
 no_finding_made = element_made Paragraph (Own (Words (codes "No line stands out by the rules of this report.")) ∷ []) (record { are = refl })
 
-pub findings_made : (rows : List FindingRow) → IsMadeOfBlocks (findings_text rows)
-findings_made rows =
-    append_made (counts_made (count_by is_first_row rows) (length rows - count_by is_first_row rows))
-    (if_made (length rows == 0) no_finding_made (open_and_folded_made rows))
+pub findings_made : (findings : FindingTable) → IsMadeOfBlocks (findings_text findings)
+findings_made findings =
+    append_made (counts_made (count_by is_first_row findings.lines) (length findings.lines - count_by is_first_row findings.lines))
+    (if_made (length findings.rows == 0) no_finding_made (open_and_folded_made findings.rows))
