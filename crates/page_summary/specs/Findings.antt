@@ -57,10 +57,11 @@ abbrev pub places : List FindingRow → List (Item (List ℕ))
 places lines = some_places (take 4 lines) ++ Own (AndMore (length (drop 4 lines))) ∷ []
 
 -- how many lines share a row, if more than one does
+abbrev pub shared_by : ℕ → List (Item (List ℕ))
+shared_by count = Own Break ∷ Own (Number count) ∷ Own (Words (codes " lines for the same names, the first of them:")) ∷ []
+
 abbrev pub shared : ℕ → List (Item (List ℕ))
-shared count =
-    if count == 1 then []
-    else Own Break ∷ Own (Number count) ∷ Own (Words (codes " lines for the same names, the first of them:")) ∷ []
+shared count = if count == 1 then [] else shared_by count
 
 -- why so many lines stand out, and the first of them as written
 abbrev pub what : FindingRow → ℕ → List (Item (List ℕ))

@@ -49,15 +49,10 @@ const OVERVIEW: Frame = Frame {
     ],
 };
 
-/// Its columns before the maps, and those behind them.
-const BEFORE: &[Column] = &[Column::Name("File system"), Column::Plain("At the most")];
+/// How many columns stand before those of the maps, and where the ones behind them begin.
+const BEFORE_MAPS: usize = 2;
 
-const BEHIND: &[Column] = &[
-    Column::Count("Addresses"),
-    Column::Plain("Kept by"),
-    Column::Plain("In force"),
-    Column::Plain("Stands out"),
-];
+const BEHIND_MAPS: usize = 6;
 
 /// How far file systems reach: the most that an address may, the cells of the maps, and how many addresses may something.
 #[derive(Clone, Copy)]
@@ -110,9 +105,13 @@ pub fn push_overview(
 fn push_any(alloc: Global, together: &Reach<'_>, page: &mut String) -> Result<(), AllocError>
     ensures { OnOk result (string_bytes page.new ≡ string_bytes page.old ++ spec.any_row together.now) }
 {
-    let before: [&[Part<'_>]; 2] = [&[Part::Strong("any of them")], &[badge_part(together.most)]];
-    let behind: [&[Part<'_>]; 4] = [&[Part::PartOf(together.addresses, SPACE)], &[], &[], &[]];
-    push_around(alloc, &before, together.maps, &behind, page)
+    push_around(
+        alloc,
+        &[&[Part::Strong("any of them")], &[badge_part(together.most)]],
+        together.maps,
+        &[&[Part::PartOf(together.addresses, SPACE)], &[], &[], &[]],
+        page,
+    )
 }
 
 /// Adds the rows for each.
@@ -132,21 +131,25 @@ fn push_system(alloc: Global, row: &SystemRow<'_>, page: &mut String) -> Result<
 {
     let in_force = in_force(row);
     let standing_out = standing_out(row);
-    let before: [&[Part<'_>]; 2] = [
-        &[Part::System(row.fs, row.name)],
-        &[badge_part(row.reach.most)],
-    ];
-    let behind: [&[Part<'_>]; 4] = [
-        &[Part::PartOf(row.reach.addresses, SPACE)],
+    push_around(
+        alloc,
         &[
-            Part::Codes(row.custodians),
-            part_if(row.guarded, Part::Words(" ")),
-            part_if(row.guarded, Part::Strong("guarded")),
+            &[Part::System(row.fs, row.name)],
+            &[badge_part(row.reach.most)],
         ],
-        &in_force,
-        &standing_out,
-    ];
-    push_around(alloc, &before, row.reach.maps, &behind, page)
+        row.reach.maps,
+        &[
+            &[Part::PartOf(row.reach.addresses, SPACE)],
+            &[
+                Part::Codes(row.custodians),
+                part_if(row.guarded, Part::Words(" ")),
+                part_if(row.guarded, Part::Strong("guarded")),
+            ],
+            &in_force,
+            &standing_out,
+        ],
+        page,
+    )
 }
 
 /// Adds a row: the cells before those of the maps, these, which come onto the page as they are, and the cells behind them.
@@ -157,15 +160,15 @@ fn push_around(
     behind: &[&[Part<'_>]],
     page: &mut String,
 ) -> Result<(), AllocError>
-    requires before { length before.now ≡ 2 }
-    requires behind { length behind.now ≡ 4 }
+    requires before { length before.now ≡ length spec.before_maps }
+    requires behind { length behind.now ≡ length spec.behind_maps }
     ensures { OnOk result (string_bytes page.new
         ≡ string_bytes page.old ++ spec.row_around (map (λ cell. items_of cell.now) before.now) maps.now (map (λ cell. items_of cell.now) behind.now)) }
 {
     page.push_str("<tr>")?;
-    push_cells(alloc, BEFORE, before, page)?;
+    push_cells(alloc, &OVERVIEW.columns[..BEFORE_MAPS], before, page)?;
     page.push_str(maps)?;
-    push_cells(alloc, BEHIND, behind, page)?;
+    push_cells(alloc, &OVERVIEW.columns[BEHIND_MAPS..], behind, page)?;
     page.push_str("</tr>\n")?;
     Ok(())
 }

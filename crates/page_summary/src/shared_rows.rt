@@ -96,7 +96,7 @@ fn keep_place(
     place: usize,
 ) -> Result<(), AllocError>
     ensures { OnOk result ((other : List ℕ) → get_by_text places.new other
-        ≡ (if bytes_eq (string_bytes text.entry) other then Some place else get_by_text places.old other)) }
+        ≡ (if bytes_eq (string_bytes text) other then Some place else get_by_text places.old other)) }
 {
     places.insert(text, place)?;
     Ok(())
