@@ -8,7 +8,7 @@ use Rattle.desk_text.specs.Lines.{LogicalLine, logical_lines}
 use Rattle.desk_exports.specs.Laws.{takes_part}
 use Rattle.desk_server.specs.declared.wider_grant.WiderGrant.{WiderGrant}
 use Rattle.page_data.specs.Reasons.{is_first, level_of_all}
-use Rattle.page_data.specs.Unique.{Another, GrantsMore, ReasonValue, WiderValue, reason_value, wider_value}
+use Rattle.page_data.specs.Unique.{Another, GrantsMore, ReasonValue, WiderValue, reason_value}
 use Rattle.page_data.specs.declared.reasons.Level.TheVariants.{Check, LookFirst}
 use Rattle.page_data.specs.declared.reasons.Reason.{Reason}
 use Rattle.page_data.specs.declared.reasons.Reason.TheVariants.{NoClient, NeverDecides, ForEverybodyReadOnly, ForEverybodyReadWrite, Wide, RootKeptForNetworks, RootKeptForNames, ServerGrantsMore, RepeatedClient}

@@ -1,21 +1,20 @@
 -- The part on a file system has one text.
 use Rattle.std.proofs.Common.{◌≡◌, ℕ, ◌+◌, ◌^◌, ◌==◌, ◌++◌, ◌∙◌, Bool, List, [], ◌∷◌, Option, Some, None, ap, arith, drop, get_or, length, map, option_copied, refl, subst, sym}
-use Rattle.std.specs.Prelude.{◌-◌, All, codes, filter, if◌then◌else◌, not, slice_get, sum_by, take}
+use Rattle.std.specs.Prelude.{◌-◌, All, codes, filter, if◌then◌else◌, not, slice_get, take}
 use Rattle.std.proofs.lemmas.List.Elements.{All-head, All-tail}
 use Rattle.desk_text.specs.Network.{Block}
 use Rattle.desk_text.specs.Path.{path_text}
 use Rattle.desk_tables.specs.declared.filesystems.FsId.{FsId}
 use Rattle.desk_tables.specs.declared.filesystems.Mount.{Mount}
-use Rattle.desk_policy.specs.Policy.{Content, rows_of}
+use Rattle.desk_policy.specs.Policy.{rows_of}
 use Rattle.desk_policy.specs.declared.row.Row.{Row}
 use Rattle.desk_core.specs.declared.head.Head.{Head}
-use Rattle.desk_who.specs.Runs.{AreRuns, Run}
+use Rattle.desk_who.specs.Runs.{Run}
 use Rattle.page_data.specs.Counts.{AreCountsFrom}
 use Rattle.page_data.specs.Unique.{CountsAreUnique}
 use Rattle.page_data.specs.Values.{AreRunsOfSome}
 use Rattle.page_data.specs.declared.class.Class.{Class}
 use Rattle.page_data.specs.declared.counts.Counts.{Counts}
-use Rattle.page_findings.specs.Lines.{LineValue}
 use Rattle.page_html.specs.Blocks.{element_html, system_start, tag_html}
 use Rattle.page_html.specs.Items.{Code}
 use Rattle.page_html.specs.Ranges.{Ends}
@@ -25,12 +24,11 @@ use Rattle.page_maps.specs.Maps.{is_listed}
 use Rattle.page_maps.proofs.OneOrder.{ordered_in_one_way}
 use Rattle.page_places.specs.Groups.{groups_text}
 use Rattle.page_places.specs.Lists.{groups_start, not_listed}
-use Rattle.page_filesystem.specs.CountedShares.{AreOwnNetworks, AreShares, AreSharesOf, IsShareFrom, most_networks, private_networks, ranges_of, spaces}
+use Rattle.page_filesystem.specs.CountedShares.{AreShares, IsShareFrom, most_networks, private_networks, ranges_of, spaces}
 use Rattle.page_filesystem.specs.Counting.{AreCountsOver, AreCountsOverFrom}
 use Rattle.page_filesystem.specs.Facts.{facts}
 use Rattle.page_filesystem.specs.Findings.{findings_list}
 use Rattle.page_filesystem.specs.Notes.{notes_of}
-use Rattle.page_filesystem.specs.Outcomes.{outcome_text}
 use Rattle.page_filesystem.specs.OwnParts.{IsPartOf, own_lines, runs_in, text_of}
 use Rattle.page_filesystem.specs.Parts.{file_system, proposal_part, way_back}
 use Rattle.page_filesystem.specs.Proposals.{proposal_start, proposed_text}

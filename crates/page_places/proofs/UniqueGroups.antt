@@ -1,6 +1,6 @@
 -- The groups of a file system are told in one way: each has one table, one text of maps, and, by value, one list of what the server grants.
-use Rattle.std.proofs.Common.{◌≡◌, ℕ, zero, suc, ◌+◌, ◌++◌, ◌∙◌, Bool, true, false, Ordering, List, [], ◌∷◌, ap, arith, drop, get_or, length, map, refl, subst, sym, take}
-use Rattle.std.specs.Prelude.{◌==◌, ◌&&◌, All, Option, Some, None, Result, codes, if◌then◌else◌}
+use Rattle.std.proofs.Common.{◌≡◌, ℕ, zero, suc, ◌+◌, ◌++◌, ◌∙◌, Bool, true, false, List, [], ◌∷◌, ap, arith, drop, get_or, length, map, refl, subst, sym, take}
+use Rattle.std.specs.Prelude.{◌==◌, ◌&&◌, All, Some, None, Result, codes, if◌then◌else◌}
 use Rattle.std.specs.Cmp.Lexicographic.{nat_list_cmp_total, slice_cmp}
 use Rattle.std.specs.List.{dedup, flat_map}
 use Rattle.std.specs.Ordering.{is_lt, nat_cmp}
@@ -16,7 +16,7 @@ use Rattle.desk_who.specs.Who.{range_value}
 use Rattle.desk_impact.specs.Sections.{PlaceBreaches, PlaceFound}
 use Rattle.page_data.specs.Class.{class_of}
 use Rattle.page_data.specs.Groups.{group_value}
-use Rattle.page_data.specs.Laws.{GroupsCanBeTabled, TellVerdicts}
+use Rattle.page_data.specs.Laws.{GroupsCanBeTabled}
 use Rattle.page_data.specs.Rows as kept
 use Rattle.page_data.specs.Tables as tables
 use Rattle.page_data.specs.Tables.{CanBeTabled, ranges_at_first, table_value}
@@ -36,16 +36,15 @@ use Rattle.page_html.specs.declared.ranges.Span.{Span}
 use Rattle.page_maps.specs.Figures.{GainsGroupMaps}
 use Rattle.page_maps.specs.Laws.{MapsAreToldInOneWay}
 use Rattle.page_places.specs.Groups.{group_block, group_text, groups_text, who_block}
-use Rattle.page_places.specs.ListedGroups.{AreListed, AreListedGroups, IsPart, PartValue, are_drawn, listed_value, most_listed, part_value}
-use Rattle.page_places.specs.ListedOpenings.{AreOpeningsOf, order_of, same_denied}
+use Rattle.page_places.specs.ListedGroups.{AreListed, IsPart, PartValue, are_drawn, listed_value, most_listed, part_value}
+use Rattle.page_places.specs.ListedOpenings.{AreOpeningsOf}
 use Rattle.page_places.specs.Maps.{AreMapsIf, AreMapsOf, AreMapsOfGroup, grants_some}
 use Rattle.page_places.specs.Names.{heading, members_in, place_item}
 use Rattle.page_places.specs.Openings.{OpeningValue, opening_items, opening_value, openings_text}
-use Rattle.page_places.specs.Rows.{RowValue, row_value, span_of}
+use Rattle.page_places.specs.Rows.{RowValue, row_value}
 use Rattle.page_places.specs.Tables.{TableValue, others_of, told_value}
-use Rattle.page_places.specs.UniqueLaws.{AreToldAlike, GroupsAreToldInOneWay}
+use Rattle.page_places.specs.UniqueLaws.{GroupsAreToldInOneWay}
 use Rattle.page_places.specs.declared.groups.GroupPart.{GroupPart}
-use Rattle.page_places.specs.declared.listing.ListedGroups.{ListedGroups}
 use Rattle.page_places.specs.declared.openings.PlaceOpening.{PlaceOpening}
 use Rattle.page_places.proofs.StableSorts.{sorted_in_one_way}
 

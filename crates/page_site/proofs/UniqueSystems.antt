@@ -1,5 +1,5 @@
 -- The parts on file systems have one text.
-use Rattle.std.proofs.Common.{◌≡◌, ℕ, ◌+◌, ◌<◌, ◌==◌, ◌++◌, ◌∙◌, Bool, List, [], ◌∷◌, Option, Some, None, Result, Ok, Err, ap, arith, get_or, length, map, not, refl, subst, sym}
+use Rattle.std.proofs.Common.{◌≡◌, ℕ, ◌+◌, ◌<◌, ◌==◌, ◌++◌, ◌∙◌, Bool, List, [], ◌∷◌, Option, Some, None, Result, Ok, Err, ap, arith, get_or, length, map, not, subst, sym}
 use Rattle.std.specs.Prelude.{All, filter}
 use Rattle.std.proofs.lemmas.List.{length-map}
 use Rattle.std.proofs.lemmas.List.Elements.{All-head, All-tail}
@@ -14,7 +14,7 @@ use Rattle.page_data.specs.Values.{AreRunsOfSome}
 use Rattle.page_data.specs.declared.opening.Opening.{Opening}
 use Rattle.page_findings.specs.Deciding.{DecidedFor}
 use Rattle.page_findings.specs.Findings.{stands_out}
-use Rattle.page_findings.specs.Lines.{LineValue, line_value}
+use Rattle.page_findings.specs.Lines.{LineValue}
 use Rattle.page_findings.specs.UniqueLaws.{AreAlike, KnownLine, LinesAreToldInOneWay, known_line}
 use Rattle.page_findings.specs.declared.finding_words.Finding.{Finding}
 use Rattle.page_findings.proofs.Mapped.{map_twice}
@@ -24,12 +24,12 @@ use Rattle.page_maps.specs.Laws.{MapsAreToldInOneWay}
 use Rattle.page_places.specs.ChangeRows.{changes_block}
 use Rattle.page_places.specs.Changes.{ChangesValue, row_value}
 use Rattle.page_places.specs.Groups.{groups_text}
-use Rattle.page_places.specs.UniqueLaws.{AreToldAlike, ChangesAreToldInOneWay, GroupsAreToldInOneWay, PlacesAreToldInOneWay}
+use Rattle.page_places.specs.UniqueLaws.{AreToldAlike, ChangesAreToldInOneWay, PlacesAreToldInOneWay}
 use Rattle.page_places.specs.declared.change_rows.ChangeRow.{ChangeRow}
 use Rattle.page_filesystem.specs.OwnLines.{lines_in}
 use Rattle.page_filesystem.specs.OwnParts.{own_lines, runs_in}
 use Rattle.page_filesystem.specs.Outcomes.{outcome_text, refused}
-use Rattle.page_filesystem.specs.UniqueLaws.{AreAlikeIfAny, AreGivenAlike, AreProposalsAlike, FileSystemsAreToldInOneWay, KnownFinding, known_finding}
+use Rattle.page_filesystem.specs.UniqueLaws.{AreAlikeIfAny, AreGivenAlike, FileSystemsAreToldInOneWay, KnownFinding, known_finding}
 use Rattle.page_filesystem.specs.declared.outcomes.Outcome.{Outcome}
 use Rattle.page_filesystem.specs.declared.outcomes.Outcome.TheVariants.{Changes, Refused}
 use Rattle.page_filesystem.specs.declared.own_parts.FileSystemData.{FileSystemData}
@@ -37,7 +37,7 @@ use Rattle.page_filesystem.specs.declared.parts.ProposalPart.{ProposalPart}
 use Rattle.page_summary.specs.SiteFinding.{FindingValue, deciding_for, finding_of, finding_value, findings_among, is_for_network}
 use Rattle.page_summary.specs.declared.site_finding.SiteFinding.{SiteFinding}
 use Rattle.page_site.specs.FoundInSite.{Found, Source}
-use Rattle.page_site.specs.SystemParts.{AreChangesBy, AreFindingsIn, AreGroupsIn, AreSystemTexts, AreTextsFrom, IsDataOf, IsFaultIn, IsSystemText, TellingValue, TellsIfAny, TellsOutcome, TellsWaiting, head_in, telling_of, waiting_for}
+use Rattle.page_site.specs.SystemParts.{AreChangesBy, AreFindingsIn, AreGroupsIn, AreTextsFrom, IsDataOf, IsFaultIn, IsSystemText, TellingValue, TellsIfAny, TellsOutcome, telling_of, waiting_for}
 use Rattle.page_site.specs.UniqueLaws.{HasOneText, SystemsAreToldInOneWay}
 use Rattle.page_site.specs.WaitingProposals.{Waiting}
 use Rattle.page_site.proofs.UniqueFound.{decided_in_one_way, maps_in_one_way}

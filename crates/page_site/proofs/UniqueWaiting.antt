@@ -1,5 +1,5 @@
 -- There is one list of what waits, each with one outcome; and one list of the proposals by which clients may do more.
-use Rattle.std.proofs.Common.{◌≡◌, ◌⊎◌, ℕ, suc, ◌+◌, ◌<◌, ◌∙◌, List, [], ◌∷◌, Option, Some, None, Result, Ok, Err, ap, arith, drop, get_or, inl, inr, length, map, option_map, refl, subst, sym}
+use Rattle.std.proofs.Common.{◌≡◌, ℕ, suc, ◌+◌, ◌<◌, ◌∙◌, List, [], ◌∷◌, Option, Some, None, Result, Ok, Err, ap, arith, drop, get_or, inl, inr, length, map, option_map, refl, subst, sym}
 use Rattle.std.specs.Prelude.{All, slice_get, slice_index_or, slice_set}
 use Rattle.std.specs.List.{flat_map}
 use Rattle.std.proofs.lemmas.Bool.{cases_lt}
@@ -15,7 +15,6 @@ use Rattle.desk_policy.specs.Site.{SiteTexts}
 use Rattle.desk_policy.specs.SiteFault.{contradiction_fault, exports_name}
 use Rattle.desk_policy.specs.SiteFile.{exports_place}
 use Rattle.desk_policy.specs.View.{IsFaultOf, IsLeastContradiction}
-use Rattle.desk_policy.specs.declared.contradiction.Contradiction.{Contradiction}
 use Rattle.desk_policy.specs.declared.parsing.SiteTables.{SiteTables}
 use Rattle.desk_policy.specs.declared.row.Row.{Row}
 use Rattle.desk_policy.specs.declared.site_fault.SiteFault.{SiteFault}
@@ -28,7 +27,7 @@ use Rattle.page_places.specs.UniqueLaws.{ChangesAreToldInOneWay}
 use Rattle.page_summary.specs.Proposals.{ProposalValue}
 use Rattle.page_site.specs.SystemParts.{waiting_for}
 use Rattle.page_site.specs.WaitingProposals.{AreWaiting, IsOutcomeOf, IsWaiting, Waiting}
-use Rattle.page_site.specs.WideningProposals.{AreSoManyBy, AreWidening, IsToldFor, IsToldOf, row_if_any}
+use Rattle.page_site.specs.WideningProposals.{AreSoManyBy, AreWidening, IsToldFor, row_if_any}
 
 -- ---- a policy that is read has lines for each file system
 many_files : (texts : SiteTexts) (table : List Mount) (site_tables : SiteTables) (fs : ℕ) (mounts : List Mount) (files : List ExportsFile) → read_files texts table site_tables fs mounts ≡ Ok files
@@ -114,7 +113,7 @@ module _ (newest : Newest) (content : Content) (each : length content.rows ≡ l
   lines_in_one_way : (texts : SiteTexts) (fs : ℕ) (lines other : Content) → HasLinesAlone content fs lines → HasLinesAlone content fs other → IsInForce texts (with_lines_of content fs lines)
       → IsInForce texts (with_lines_of content fs other) → lines ≡ other
   lines_in_one_way texts fs lines other alone alone' force force' =
-      let within : fs < length content.rows = (let listed = alone.file_system in omega arith) in
+      let within : fs < length content.rows = (let listed = alone.file_system in let many = each in omega arith) in
       let set : slice_set content.rows fs (rows_of lines fs) ≡ slice_set content.rows fs (rows_of other fs) = force.lines.rows ∙ sym force'.lines.rows in
       let rows : rows_of lines fs ≡ rows_of other fs =
       sym (get_or-set_same content.rows fs (rows_of lines fs) [] within) ∙ ap (λ (all : List (List Row)). slice_index_or all fs []) set
