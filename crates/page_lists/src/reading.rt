@@ -27,6 +27,7 @@ const HOW_TO_READ: &str = r##"<section id="read">
 <p>Wherever what a client may (nothing, read-only, read-write, root kept) changes between two neighbouring addresses, one of the maps has that border as a line of its grid, unless the page says that maps are not drawn.</p>
 <h3>What stands out</h3>
 <p>A line stands out by these rules and no others. Only <i>look first</i> and <i>check</i> tell them apart; an intended line may stand out, and a line that does not is not thereby right.</p>
+<p>In the summary, proposals by which clients may do more stand above the lines. Lines for the same written names share a row there if they stand out for the same reasons, on the same terms, and grant something to as many addresses; a reason that names another line is the same only within a file system. The row names the first four of its lines, and shows the first as written. A line for a network or for everybody has a row of its own.</p>
 <table class="f">
 <caption class="off">Rules by which a line stands out</caption>
 <thead><tr><th scope="col">Level</th><th scope="col">Words</th><th scope="col">The line</th></tr></thead>

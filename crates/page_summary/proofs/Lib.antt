@@ -4,4 +4,5 @@ pub mod Unique
 pub mod Standing
 pub mod Looking
 pub mod Deciders
+pub mod Sharing
 mod Revisions

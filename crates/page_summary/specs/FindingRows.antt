@@ -7,6 +7,7 @@ use Rattle.page_findings.specs.Findings.{AreFindings}
 use Rattle.page_findings.specs.Lines.{LineValue}
 use Rattle.page_summary.specs.Findings.{counted_findings, findings}
 use Rattle.page_summary.specs.declared.findings.FindingRow.{FindingRow}
+use Rattle.page_summary.specs.SharedRows.{AreSharedRows}
 use Rattle.page_summary.specs.SiteFinding.{FindingValue, finding_value, findings_among}
 use Rattle.page_summary.specs.Files.{line_in, name_of, text_in_force}
 
@@ -17,19 +18,30 @@ pub record RowValue : Type 0 where
   pub text : List ℕ
 
 abbrev pub row_value : FindingRow → RowValue
-row_value row = record { told = finding_value (record { finding = row.finding; count = row.count }); system = row.system.now; text = row.text.now }
+row_value row = record {
+  told = finding_value (record { finding = row.finding; clients = row.clients; count = row.count });
+  system = row.system.now;
+  text = row.text.now;
+}
 
 -- the row of a line that stands out, given the lines in force of each file system
 abbrev pub row_of : List Mount → List (List (List ℕ)) → FindingValue → RowValue
 row_of table texts told = record { told = told; system = name_of table told.fs; text = line_in texts told.fs told.line }
 
--- The rows of the lines that stand out, those to be looked at first first, given which lines decide in place of those that never do.
+-- lines that stand out, and the same lines in rows
+pub record FindingTable : Type 0 where
+  pub lines : List FindingRow
+  pub rows : List (List FindingRow)
+
+-- The rows of the lines that stand out: those to be looked at first come first, given which lines decide in place of those that never do,
+-- and lines that are told alike share a row.
 pub record AreFindingRows (table : List Mount) (heads : List Head) (decided : List (List DecidedFor)) (lines : List LineValue)
-    (rows : List FindingRow) : Type 0 where
+    (findings : FindingTable) : Type 0 where
   pub found : List LineValue
   pub are : AreFindings lines found
-  pub told : map row_value rows ≡ map (row_of table (map (text_in_force heads) table)) (findings_among decided found)
+  pub told : map row_value findings.lines ≡ map (row_of table (map (text_in_force heads) table)) (findings_among decided found)
+  pub shared : AreSharedRows findings.lines findings.rows
 
 -- how many there are of each level, and all of them
-abbrev pub findings_text : List FindingRow → List ℕ
-findings_text rows = counted_findings rows ++ findings rows
+abbrev pub findings_text : FindingTable → List ℕ
+findings_text table = counted_findings table.lines ++ findings table.rows

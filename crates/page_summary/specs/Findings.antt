@@ -1,13 +1,15 @@
 -- The lines of the site that stand out. (this project's own)
-use Rattle.std.specs.Prelude.{ℕ, ◌==◌, ◌-◌, Bool, List, [], ◌∷◌, ◌++◌, codes, count_by, drop, false, length, map, nat_le, take, true, if◌then◌else◌}
+use Rattle.std.specs.Prelude.{ℕ, ◌==◌, ◌-◌, Bool, List, [], ◌∷◌, ◌++◌, codes, count_by, drop, false, length, nat_le, take, true, if◌then◌else◌}
+use Rattle.std.specs.List.{flat_map}
 use Rattle.page_html.specs.Blocks.{element_html, tag_html}
-use Rattle.page_html.specs.Items.{Break, Item, Line, LineLink, Link, Number, Own, PartOf, Plural, System, Words}
-use Rattle.page_html.specs.Tables.{Count, Frame, Name, Plain, rows_html, table_start}
+use Rattle.page_html.specs.Items.{AndMore, Break, Item, Line, LineLink, Link, Number, Own, PartOf, Plural, System, Words}
+use Rattle.page_html.specs.Tables.{Count, Frame, Name, Plain, row_html, table_start}
 use Rattle.page_html.specs.Titles.{Said}
 use Rattle.page_html.specs.declared.blocks.Element.TheVariants.{Fold, Paragraph}
 use Rattle.page_html.specs.declared.blocks.Tag.TheVariants.{FoldEnd, TableEnd}
 use Rattle.page_findings.specs.FindingWords.{finding_items}
 use Rattle.page_findings.specs.Badges.{level_item}
+use Rattle.page_findings.specs.Joining.{joined}
 use Rattle.page_data.specs.Reasons.{is_first_level, level_of_all}
 use Rattle.page_summary.specs.declared.findings.FindingRow.{FindingRow}
 
@@ -43,37 +45,58 @@ more_frame = record {
       Name (codes "Level") ∷ Plain (codes "Where") ∷ Plain (codes "What, and the line as written") ∷ Count (codes "Addresses") ∷ [];
 }
 
--- why a line stands out, and the line as written
-abbrev pub what : FindingRow → List (Item (List ℕ))
-what row = finding_items row.finding ++ Own Break ∷ Line row.text.now ∷ []
+-- links to the file system of a line, and to the line
+abbrev pub place : FindingRow → List (Item (List ℕ))
+place line = System line.finding.fs.0 line.system.now ∷ Own (Words (codes " ")) ∷ Own (LineLink line.finding.fs.0 line.finding.line) ∷ []
 
--- a row: the level, where the line stands, why it stands out with its text, and to how many of all addresses it grants something
-abbrev pub cells : FindingRow → List (List (Item (List ℕ)))
-cells row =
-    (level_item (level_of_all row.finding.reasons.now) ∷ [])
-    ∷ (System row.finding.fs.0 row.system.now ∷ Own (Words (codes " ")) ∷ Own (LineLink row.finding.fs.0 row.finding.line) ∷ [])
-    ∷ what row ∷ (Own (PartOf row.count 4294967296) ∷ []) ∷ []
+-- where lines stand: 4 at the most, and how many more there are
+abbrev pub some_places : List FindingRow → List (Item (List ℕ))
+some_places lines = joined place (Own Break) lines
 
-abbrev pub table : Frame → List ℕ → List FindingRow → List ℕ
-table frame title rows = table_start frame (Said title ∷ []) ++ rows_html frame (map cells rows) ++ tag_html TableEnd
+abbrev pub places : List FindingRow → List (Item (List ℕ))
+places lines = some_places (take 4 lines) ++ Own (AndMore (length (drop 4 lines))) ∷ []
+
+-- how many lines share a row, if more than one does
+abbrev pub shared : ℕ → List (Item (List ℕ))
+shared count =
+    if count == 1 then []
+    else Own Break ∷ Own (Number count) ∷ Own (Words (codes " lines for the same names, the first of them:")) ∷ []
+
+-- why so many lines stand out, and the first of them as written
+abbrev pub what : FindingRow → ℕ → List (Item (List ℕ))
+what first count = finding_items first.finding ++ shared count ++ Own Break ∷ Line first.text.now ∷ []
+
+-- a row of lines that are told alike: the level, where they stand, why they stand out, and to how many of all addresses each grants
+-- something
+abbrev pub cells : FindingRow → List FindingRow → List (List (Item (List ℕ)))
+cells first lines =
+    (level_item (level_of_all first.finding.reasons.now) ∷ []) ∷ places lines ∷ what first (length lines)
+    ∷ (Own (PartOf first.count 4294967296) ∷ []) ∷ []
+
+abbrev pub lines_html : Frame → List FindingRow → List ℕ
+lines_html frame [] = []
+lines_html frame (first ∷ others) = row_html frame (cells first (first ∷ others))
+
+abbrev pub table : Frame → List ℕ → List (List FindingRow) → List ℕ
+table frame title rows = table_start frame (Said title ∷ []) ++ flat_map (lines_html frame) rows ++ tag_html TableEnd
 
 -- rows in the open, and rows that are folded
-abbrev pub open_rows : List FindingRow → List ℕ
+abbrev pub open_rows : List (List FindingRow) → List ℕ
 open_rows rows = table findings_frame (codes "Lines that stand out") rows
 
 abbrev pub fold_start : ℕ → List ℕ
-fold_start count = element_html Fold (Own (Plural count (codes "more line") (codes "more lines")) ∷ [])
+fold_start count = element_html Fold (Own (Plural count (codes "more row") (codes "more rows")) ∷ [])
 
-abbrev pub folded_rows : List FindingRow → List ℕ
+abbrev pub folded_rows : List (List FindingRow) → List ℕ
 folded_rows rows = fold_start (length rows) ++ table more_frame (codes "More lines that stand out") rows ++ tag_html FoldEnd
 
 -- the first 24 in the open, and all others folded
-abbrev pub open_and_folded : List FindingRow → List ℕ
+abbrev pub open_and_folded : List (List FindingRow) → List ℕ
 open_and_folded rows = if nat_le (length rows) 24 then open_rows rows else open_rows (take 24 rows) ++ folded_rows (drop 24 rows)
 
 -- the lines that stand out, if there are any
 abbrev pub no_finding : List ℕ
 no_finding = element_html Paragraph (Own (Words (codes "No line stands out by the rules of this report.")) ∷ [])
 
-abbrev pub findings : List FindingRow → List ℕ
+abbrev pub findings : List (List FindingRow) → List ℕ
 findings rows = if length rows == 0 then no_finding else open_and_folded rows

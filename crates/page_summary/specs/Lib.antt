@@ -15,6 +15,8 @@ pub mod UniqueLaws
 pub mod SystemRows
 pub mod SiteData
 pub mod SiteFinding
+pub mod SharedRows
+pub mod PrivateSharedRows
 pub mod Laws
 pub mod Amounts
 pub mod State

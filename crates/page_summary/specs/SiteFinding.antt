@@ -10,7 +10,7 @@ use Rattle.page_data.specs.declared.reasons.Reason.{Reason}
 use Rattle.page_summary.specs.declared.site_finding.SiteFinding.{SiteFinding}
 
 -- what is told of a line that stands out: its file system, its number, why it stands out, its terms, whether it writes a network of IPv4
--- that does not have every address, the lines that decide in its place, and to how many addresses it grants something
+-- that does not have every address, the lines that decide in its place, for whom it is, and to how many addresses it grants something
 pub record FindingValue : Type 0 where
   pub fs : ℕ
   pub line : ℕ
@@ -18,6 +18,7 @@ pub record FindingValue : Type 0 where
   pub terms : Terms
   pub is_for_network : Bool
   pub deciding : List ℕ
+  pub clients : Clients
   pub count : ℕ
 
 abbrev pub finding_value : SiteFinding → FindingValue
@@ -28,6 +29,7 @@ finding_value one = record {
   terms = one.finding.terms.now;
   is_for_network = one.finding.is_for_network;
   deciding = one.finding.deciding.now;
+  clients = one.clients.now;
   count = one.count;
 }
 
@@ -51,6 +53,7 @@ finding_of decided line = record {
   terms = line.row.entry.terms;
   is_for_network = is_for_network line.row.entry.clients;
   deciding = deciding_for decided line.fs line.row.entry.line;
+  clients = line.row.entry.clients;
   count = line.count;
 }
 

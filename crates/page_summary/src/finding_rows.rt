@@ -12,6 +12,7 @@ ghost use Rattle.page_summary.specs.SiteFinding.{finding_value};
 
 use crate::files::{line_in, name_of, texts_in_force};
 use crate::findings::{FindingRow, push_counted_findings, push_findings};
+use crate::shared_rows::shared_rows;
 use crate::site_finding::{SiteFinding, site_findings};
 use desk_core::Head;
 use desk_policy::Policy;
@@ -38,8 +39,9 @@ pub fn push_findings_of<'a>(
     let found = findings_of_site(alloc, lines)?;
     let told = site_findings(alloc, found.as_slice(), deciding)?;
     let texts = texts_in_force(alloc, table.as_slice(), heads)?;
-    let rows = finding_rows(alloc, table, texts.as_slice(), told.as_slice())?;
-    push_counted_findings(alloc, rows.as_slice(), page)?;
+    let standing = finding_rows(alloc, table, texts.as_slice(), told.as_slice())?;
+    let rows = shared_rows(alloc, standing.as_slice())?;
+    push_counted_findings(alloc, standing.as_slice(), page)?;
     push_findings(alloc, rows.as_slice(), page)
 }
 
@@ -70,6 +72,7 @@ fn finding_row<'a>(
     let finding = one.finding;
     FindingRow {
         finding,
+        clients: one.clients,
         system: name_of(table, finding.fs),
         text: line_in(texts, finding.fs, finding.line),
         count: one.count,

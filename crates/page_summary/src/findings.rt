@@ -1,20 +1,20 @@
 //! The lines of the site that stand out.
 
-ghost use Rattle.std.specs.Prelude.{◌≡◌, ◌++◌, IfOk, OnOk, count_by, length, map};
+ghost use Rattle.std.specs.Prelude.{◌≡◌, ◌++◌, OnOk, count_by, length};
+ghost use Rattle.std.specs.List.{flat_map};
 ghost use Rattle.std.specs.String.{string_bytes};
-ghost use Rattle.page_html.specs.Parts.{item_of};
-ghost use Rattle.page_html.specs.Tables.{frame_of, row_html, rows_html};
+ghost use Rattle.page_html.specs.Tables.{frame_of};
 ghost use Rattle.page_summary.specs.Findings as spec;
 
+use crate::finding_cells::push_lines;
+use desk_exports::Clients;
+use desk_text::Sequence;
 use page_data::Level;
-use page_findings::{Finding, finding_parts, level_part};
-use page_html::{
-    Column, Element, Frame, Part, Tag, Title, four_cells, push_element, push_row, push_table_start,
-    push_tag,
-};
+use page_findings::Finding;
+use page_html::{Column, Element, Frame, Part, Tag, Title, push_element, push_table_start, push_tag};
 use std::alloc::{AllocError, Global};
 
-/// How many lines that stand out stand in the open.
+/// How many rows of lines that stand out stand in the open.
 const OPEN: usize = 24;
 
 /// How many addresses there are.
@@ -44,10 +44,11 @@ const MORE_FINDINGS: Frame = Frame {
     ],
 };
 
-/// A line that stands out, with the name of its file system, its text, and to how many addresses it grants something.
+/// A line that stands out, for whom it is, the name of its file system, its text, and to how many addresses it grants something.
 #[derive(Clone, Copy)]
 pub struct FindingRow<'a> {
     pub finding: Finding<'a>,
+    pub clients: &'a Clients,
     pub system: &'a str,
     pub text: &'a str,
     pub count: u64,
@@ -94,10 +95,10 @@ fn is_first(row: &FindingRow<'_>) -> bool
     }
 }
 
-/// Adds the lines that stand out, in the order given: the first in the open, and the others folded.
+/// Adds the lines that stand out, in the rows given: the first in the open, and the others folded.
 pub fn push_findings(
     alloc: Global,
-    rows: &[FindingRow<'_>],
+    rows: &[Sequence<FindingRow<'_>>],
     page: &mut String,
 ) -> Result<(), AllocError>
     ensures { OnOk result (string_bytes page.new ≡ string_bytes page.old ++ spec.findings rows.now) }
@@ -117,7 +118,7 @@ pub fn push_findings(
 /// Adds the first rows in the open, and the others folded.
 fn push_open_and_folded(
     alloc: Global,
-    rows: &[FindingRow<'_>],
+    rows: &[Sequence<FindingRow<'_>>],
     page: &mut String,
 ) -> Result<(), AllocError>
     ensures { OnOk result (string_bytes page.new ≡ string_bytes page.old ++ spec.open_and_folded rows.now) }
@@ -131,14 +132,14 @@ fn push_open_and_folded(
 }
 
 /// Adds rows that are folded.
-fn push_folded(alloc: Global, rows: &[FindingRow<'_>], page: &mut String) -> Result<(), AllocError>
+fn push_folded(alloc: Global, rows: &[Sequence<FindingRow<'_>>], page: &mut String) -> Result<(), AllocError>
     ensures { OnOk result (string_bytes page.new ≡ string_bytes page.old ++ spec.folded_rows rows.now) }
 {
     let count = rows.len() as u64;
     push_element(
         alloc,
         Element::Fold,
-        &[Part::Plural(count, "more line", "more lines")],
+        &[Part::Plural(count, "more row", "more rows")],
         page,
     )?;
     push_table(
@@ -151,12 +152,12 @@ fn push_folded(alloc: Global, rows: &[FindingRow<'_>], page: &mut String) -> Res
     push_tag(Tag::FoldEnd, page)
 }
 
-/// Adds a table of lines.
+/// Adds a table of rows.
 fn push_table(
     alloc: Global,
     frame: &Frame,
     title: &'static str,
-    rows: &[FindingRow<'_>],
+    rows: &[Sequence<FindingRow<'_>>],
     page: &mut String,
 ) -> Result<(), AllocError>
     requires { length frame.now.columns.now ≡ 4 }
@@ -168,57 +169,17 @@ fn push_table(
 }
 
 /// Adds rows.
-#[tactic(auto, unfolding(page_html::specs::Tables::rows_html))]
 fn push_rows(
     alloc: Global,
     frame: &Frame,
-    rows: &[FindingRow<'_>],
+    rows: &[Sequence<FindingRow<'_>>],
     page: &mut String,
 ) -> Result<(), AllocError>
     requires { length frame.now.columns.now ≡ 4 }
-    ensures { OnOk result (string_bytes page.new ≡ string_bytes page.old ++ rows_html (frame_of frame.now) (map spec.cells rows.now)) }
+    ensures { OnOk result (string_bytes page.new ≡ string_bytes page.old ++ flat_map (spec.lines_html (frame_of frame.now)) rows.now) }
 {
     for row in rows {
-        push_finding(alloc, frame, row, page)?;
+        push_lines(alloc, frame, row.as_slice(), page)?;
     }
     Ok(())
-}
-
-/// Adds a row.
-fn push_finding(
-    alloc: Global,
-    frame: &Frame,
-    row: &FindingRow<'_>,
-    page: &mut String,
-) -> Result<(), AllocError>
-    requires { length frame.now.columns.now ≡ 4 }
-    ensures { OnOk result (string_bytes page.new ≡ string_bytes page.old ++ row_html (frame_of frame.now) (spec.cells row.now)) }
-{
-    let what = what_parts(alloc, row)?;
-    push_row(
-        alloc,
-        frame,
-        &four_cells(
-            &[level_part(row.finding.level())],
-            &[
-                Part::System(row.finding.fs, row.system),
-                Part::Words(" "),
-                Part::LineLink(row.finding.fs, row.finding.line),
-            ],
-            what.as_slice(),
-            &[Part::PartOf(row.count, SPACE)],
-        ),
-        page,
-    )?;
-    Ok(())
-}
-
-/// Gathers why a line stands out, and the line as written.
-fn what_parts<'a>(alloc: Global, row: &FindingRow<'a>) -> Result<Vec<Part<'a>>, AllocError>
-    ensures { IfOk result (λ parts. map item_of parts.items ≡ spec.what row.now) }
-{
-    let mut parts = finding_parts(alloc, &row.finding)?;
-    parts.push(Part::Break)?;
-    parts.push(Part::Line(row.text))?;
-    Ok(parts)
 }

@@ -15,6 +15,8 @@ use std::alloc::{AllocError, Global};
 #[derive(Clone, Copy)]
 pub struct SiteFinding<'a> {
     pub finding: Finding<'a>,
+    /// For whom the line is.
+    pub clients: &'a Clients,
     pub count: u64,
 }
 
@@ -66,6 +68,7 @@ fn finding_of<'a>(line: &SiteLine<'a>, deciding: &'a [Deciding]) -> SiteFinding<
             is_for_network: is_for_network(&line.row.entry.clients),
             deciding: deciding_for(deciding, line.fs, line.row.entry.line),
         },
+        clients: &line.row.entry.clients,
         count: line.count,
     }
 }

@@ -223,6 +223,8 @@ def maps_of(classes):
 FIRST, CHECK = "look first", "check"
 # What begins the words on a line by which mountd(8) does something else than the desk.
 GRANTS_MORE, LEFT_OUT = "mountd(8) grants more", "mountd(8) may leave this line out"
+# The words that go on with other lines of the file system.
+NAMING_LINES = ("never decides", GRANTS_MORE, LEFT_OUT)
 
 
 class Finding:
@@ -230,6 +232,7 @@ class Finding:
 
     def __init__(self, system, line, words):
         self.system, self.line, self.words = system, line.number, words
+        self.clients, self.terms = line.clients, line.terms
         self.level = FIRST if FIRST in [level for level, _ in words] else CHECK
         self.count = size_of(system.grants[line.number])
 

@@ -9,7 +9,7 @@ from reference.lines import physical_lines
 from reference.readings import FILES, Tables, read_site
 from reference.report.constants import DEFINITIONS, HOW_TO_READ, STYLE
 from reference.report.data import (
-    CHECK, FIRST, PRIVATE, SPACE, FileSystem, counts, findings_of, flavours_of, is_read_only, keeps_root, network_ends, together,
+    CHECK, FIRST, NAMING_LINES, PRIVATE, SPACE, FileSystem, counts, findings_of, flavours_of, is_read_only, keeps_root, network_ends, together,
     union,
 )  # fmt: skip
 from reference.report.maps import small_map
@@ -22,9 +22,9 @@ from reference.report.text import (
 from reference.sarif import RULES
 from reference.warnings import NAMES, site_warnings
 
-# So many findings stand in the open; so many networks of the site are listed, file systems named in a cell, and lines that write a
-# name, and members of a group; and so many files stand in the open.
-OPEN_FINDINGS, MOST_NETWORKS, MOST_SYSTEMS, MOST_USES, MOST_MEMBERS, OPEN_FILES = 24, 64, 12, 6, 8, 40
+# So many rows of findings stand in the open, and so many lines of a row are named; so many networks of the site are listed, file systems
+# named in a cell, and lines that write a name, and members of a group; and so many files stand in the open.
+OPEN_FINDINGS, MOST_SHARING, MOST_NETWORKS, MOST_SYSTEMS, MOST_USES, MOST_MEMBERS, OPEN_FILES = 24, 4, 64, 12, 6, 8, 40
 PARTS = {
     "summary": "Summary",
     "systems": "File systems",
@@ -150,24 +150,42 @@ def proposal_item(desk, system, count):
 
 
 def findings_tables(report):
-    """Those of the first level come first, and of one level those of most addresses."""
+    """Those of the first level come first, and of one level those of most addresses. Lines that are told alike share the row of the
+    first of them."""
     if not report.findings:
         return "<p>No line stands out by the rules of this report.</p>\n"
     order = lambda found: (found.level != FIRST, -found.count, found.system.number, found.line)
-    rows = [finding_row(report, found) for found in sorted(report.findings, key=order)]
+    shared = {}
+    for found in sorted(report.findings, key=order):
+        shared.setdefault(told_alike(found), []).append(found)
+    rows = [finding_row(report, lines) for lines in shared.values()]
     heads = ["Level", "Where", "What, and the line as written", "Addresses#"]
     made = table("Lines that stand out", heads, rows[:OPEN_FINDINGS], "f", True)
     rest = rows[OPEN_FINDINGS:]
     if not rest:
         return made
-    return made + folded(plural(len(rest), "more line"), table("More lines that stand out", heads, rest, "f"))
+    return made + folded(plural(len(rest), "more row"), table("More lines that stand out", heads, rest, "f"))
 
 
-def finding_row(report, found):
+def told_alike(found):
+    """What lines that share a row have in common: the names, the terms, to how many addresses they grant something, and why they stand
+    out. A reason that names another line is one of its file system alone. A line that writes no names shares its row with none."""
+    kind, *clients = found.clients
+    if kind != "names":
+        return found.system.number, found.line
+    names_lines = any(words in NAMING_LINES for _, words in found.words)
+    reasons = found.system.number if names_lines else None, finding_words(found)
+    return tuple(clients[0]), found.terms, found.count, reasons
+
+
+def finding_row(report, lines):
+    """The row of lines that are told alike: where the first of them stand, and the text of the first of all."""
+    found = lines[0]
     text = physical_lines(report.desk.texts[file_of(found.system)])[found.line - 1].whole
-    where = f"{system_link(found.system)} {line_link(found.system, found.line)}"
-    what = f"{finding_words(found)}<br><code>{escaped_line(text)}</code>"
-    return [level_mark(found.level), where, what, part_words(found.count)]
+    where = [f"{system_link(one.system)} {line_link(one.system, one.line)}" for one in lines]
+    shared = f"<br>{number(len(lines))} lines for the same names, the first of them:" if len(lines) > 1 else ""
+    what = f"{finding_words(found)}{shared}<br><code>{escaped_line(text)}</code>"
+    return [level_mark(found.level), and_more(where, MOST_SHARING, "<br>"), what, part_words(found.count)]
 
 
 def flavours_table(report):
