@@ -1,26 +1,24 @@
 -- The summary of the page is told in one way: each part depends on values alone.
-use Rattle.std.proofs.Common.{◌≡◌, ℕ, zero, suc, ◌+◌, ◌-◌, ◌^◌, ◌<◌, ◌==◌, ◌&&◌, ◌++◌, ◌∙◌, not, true, false, Bool, List, [], ◌∷◌, Option, Some, None, ap, arith, codes, get_or, is_none, length, map, option_copied, refl, sym, slice_get, subst, true≢false, unwrap_or}
+use Rattle.std.proofs.Common.{◌≡◌, ℕ, zero, suc, ◌+◌, ◌-◌, ◌^◌, ◌<◌, ◌==◌, ◌&&◌, ◌++◌, ◌∙◌, not, true, Bool, List, [], ◌∷◌, Option, Some, ap, arith, codes, get_or, is_none, length, map, not-suc-le-zero, refl, sym, slice_get, subst, true≢false, unwrap_or}
 use Rattle.std.specs.Prelude.{All, count_by}
 use Rattle.std.specs.List.{flat_map}
 use Rattle.std.proofs.lemmas.List.{ext_get_or, get_or-map, length-map}
 use Rattle.desk_core.specs.Listing.{HeldFile}
 use Rattle.desk_core.specs.Standing.{Standing}
-use Rattle.desk_core.specs.declared.head.Head.{Head}
 use Rattle.desk_core.specs.declared.proposal.Proposal.{Proposal}
 use Rattle.desk_policy.specs.Policy.{Content}
 use Rattle.desk_tables.specs.declared.filesystems.Mount.{Mount}
 use Rattle.desk_text.specs.Path.{path_text}
 use Rattle.desk_who.specs.Runs.{Run}
 use Rattle.page_data.specs.Counts.{granted_of}
-use Rattle.page_data.specs.Reasons.{is_first_level, level_of_all}
+use Rattle.page_data.specs.Reasons.{is_first_level}
 use Rattle.page_data.specs.Systems.{AreSystems, SystemValue}
-use Rattle.page_data.specs.Unique.{ReasonValue, ReasonsValue, WhatIsFoundIsUnique, reason_value, reasons_value}
+use Rattle.page_data.specs.Unique.{ReasonsValue, WhatIsFoundIsUnique, reason_value, reasons_value}
 use Rattle.page_data.specs.Values.{AreRunsOfSome}
 use Rattle.page_data.specs.declared.class.Class.{Class}
 use Rattle.page_data.specs.declared.lines.LineReasons.{LineReasons}
 use Rattle.page_html.specs.Blocks.{tag_html}
 use Rattle.page_html.specs.Items.{FlavourNames, Flavours, Item, Number, Own, PartOf, System}
-use Rattle.page_html.specs.Items as items
 use Rattle.page_html.specs.Tables.{rows_html, table_start}
 use Rattle.page_html.specs.Titles.{Said}
 use Rattle.page_html.specs.declared.blocks.Tag.TheVariants.{TableEnd}
@@ -37,14 +35,15 @@ use Rattle.page_lists.specs.UniqueLaws.{ListsAreToldInOneWay}
 use Rattle.page_lists.specs.Uses.{MentionValue, OfSystem, mention_value}
 use Rattle.page_lists.specs.declared.mentions.Mention.{Mention}
 use Rattle.page_lists.specs.declared.mentions.Mention.TheVariants as lent
+use Rattle.page_summary.proofs.UniqueFindings.{one_text_of_findings}
 use Rattle.page_lists.proofs.Lent.{lend, mention_of, some_again}
 use Rattle.page_summary.specs.Files.{file_of, has_proposal, name_of, newest_of}
-use Rattle.page_summary.specs.FlavoursRows.{AreFlavoursRows, mentioned, named_in, row_of, row_value}
+use Rattle.page_summary.specs.FlavoursRows.{AreFlavoursRows, FlavoursValue, NamedSystem, mentioned, named_in, row_of, row_value}
 use Rattle.page_summary.specs.FlavoursTable.{cells, flavours_frame, flavours_table}
 use Rattle.page_summary.specs.Header as of_header
 use Rattle.page_summary.specs.KeyFigures.{AreKeyFigures}
 use Rattle.page_summary.specs.Overview.{any_row, in_force, keepers, legend, overview_start, row, row_around, rows, standing_out}
-use Rattle.page_summary.specs.Reaching.{IsReachOf, MaySomething, most_among}
+use Rattle.page_summary.specs.Reaching.{IsReachOf, MaySomething}
 use Rattle.page_summary.specs.State.{IsStateDigest, state_text}
 use Rattle.page_summary.specs.SystemRows.{AreOverviewRows, AreSystemRows, IsRowOf, OverviewRows, SiteParts, is_check_line, is_first_line, overview_text}
 use Rattle.page_summary.specs.UniqueLaws.{SummaryIsToldInOneWay, with_reasons}
@@ -105,7 +104,8 @@ named_by table fs = OfSystem fs (name_of table fs)
 
 one_named : (table : List Mount) (one : Mention) (fs : ℕ) → mentioned one ≡ Some (named_in table fs) → mention_value one ≡ named_by table fs
 one_named table (lent.System fs' name) fs is =
-    let same = some_is (record { fs = fs'.0; name = name.now }) (named_in table fs) is in
+    let own : NamedSystem = record { fs = fs'.0; name = name.now } in
+    let same = some_is own (named_in table fs) is in
     λ i. OfSystem (same i).fs (same i).name
 one_named table (lent.Line fs' name line) fs is = absurd (true≢false (ap is_none is))
 one_named table (lent.Host name) fs is = absurd (true≢false (ap is_none is))
@@ -146,7 +146,7 @@ cells_by table one =
 
 one_flavours_row : (table : List Mount) (row : FlavoursRow) (one : UseValue) → row_value row ≡ row_of table one → cells row ≡ cells_by table one
 one_flavours_row table row one is =
-    let told = systems_told table row.systems.now one.filesystems (ap (λ v. v.systems) is) in
+    let told = systems_told table row.systems.now one.filesystems (ap (λ (v : FlavoursValue). v.systems) is) in
     let systems = some_again 12 row.systems.now ∙ ap (λ (values : List MentionValue). some_items 12 (map mention_of values)) told in
     λ i. (Own (FlavourNames (is i).flavours) ∷ []) ∷ (Own (Flavours (is i).flavours) ∷ []) ∷ (Own (Number (is i).lines) ∷ [])
     ∷ (Own (Number (is i).writable) ∷ []) ∷ systems i ∷ []
@@ -235,11 +235,11 @@ module _ (unique : WhatIsFoundIsUnique) (site : SiteParts) (reasons : List (List
     where
       at : (rows others : List SystemRow) → AreSystemRows site rows → AreSystemRows (with_reasons site reasons) others → (place : ℕ) → place < length (map row rows)
           → get_or (map row rows) place [] ≡ get_or (map row others) place []
-      at [] others are its place inside = absurd (omega arith)
+      at [] others are its place inside = absurd (not-suc-le-zero inside)
       at (one ∷ rows) others are its place inside =
           let many = length-map (one ∷ rows) row in
-          let own = are.count in
-          let as_many = its.count in
+          let own : length (one ∷ rows) ≡ length site.content.table = are.count in
+          let as_many : length others ≡ length site.content.table = its.count in
           get_or-map row (one ∷ rows) place one [] (omega arith)
           ∙ one_row place (get_or (one ∷ rows) place one) (get_or others place one) (omega arith) (are.each place one (omega arith)) (its.each place one (omega arith))
           ∙ sym (get_or-map row others place one [] (omega arith))
@@ -262,8 +262,9 @@ one_overview unique site reasons made other systems alike are its =
 pub summary_is_told_in_one_way : WhatIsFoundIsUnique → LinesAreToldInOneWay → ListsAreToldInOneWay → SummaryIsToldInOneWay
 summary_is_told_in_one_way unique law lists = record {
   state = one_digest lists;
-  header = one_header;
+  heading = one_header;
   figures = one_list_of_figures law;
+  findings = one_text_of_findings law;
   flavours = one_flavours_table law;
   overview = one_overview unique;
 }
