@@ -85,8 +85,8 @@ module _ {X : Type 0} (key : X → List ℕ) where
 
   one_rising : (xs ys : List X) → Rises xs → Rises ys → AreAsMany xs ys → AreToldApart xs ys → xs ≡ ys
   one_rising [] [] up up' many apart = refl
-  one_rising [] (y ∷ ys) up up' many apart = absurd (let more = counted_first (has (key y)) y ys (own y) in let as_many = many (key y) in omega arith)
-  one_rising (x ∷ xs) [] up up' many apart = absurd (let more = counted_first (has (key x)) x xs (own x) in let as_many = many (key x) in omega arith)
+  one_rising [] (y ∷ ys) up up' many apart = absurd (let none : count_by (has (key y)) [] ≡ 0 = refl in let more = counted_first (has (key y)) y ys (own y) in let as_many = many (key y) in omega arith)
+  one_rising (x ∷ xs) [] up up' many apart = absurd (let none : count_by (has (key x)) [] ≡ 0 = refl in let more = counted_first (has (key x)) x xs (own x) in let as_many = many (key x) in omega arith)
   one_rising (x ∷ xs) (y ∷ ys) up up' many apart =
       let same = first_same x y xs ys up up' many apart in
       let rest : AreAsMany xs ys = λ text.

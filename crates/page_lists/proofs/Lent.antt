@@ -1,5 +1,5 @@
 -- Rows that lend what is told, made again of their values: the page says the same of both.
-use Rattle.std.proofs.Common.{◌≡◌, ℕ, ◌==◌, ◌++◌, ◌∙◌, Bool, Bor, List, [], ◌∷◌, Option, Some, None, ap, codes, drop, if◌then◌else◌, length, map, option_copied, option_map, refl, sym, take}
+use Rattle.std.proofs.Common.{◌≡◌, ℕ, ◌==◌, ◌++◌, ◌∙◌, Bor, List, [], ◌∷◌, ap, drop, if◌then◌else◌, length, map, refl, sym, take}
 use Rattle.std.specs.List.{flat_map}
 use Rattle.std.proofs.lemmas.List.{drop-map, length-map, take-map}
 use Rattle.page_html.specs.Items.{AndMore, Item, Own}

@@ -1,6 +1,5 @@
 -- What is listed of a site is told in one way: each table depends on the values of its rows alone.
-use Rattle.std.proofs.Common.{◌≡◌, ℕ, ◌==◌, ◌++◌, ◌∙◌, Bool, Bor, List, [], ◌∷◌, Option, Some, None, ap, codes, length, map, option_copied, option_map, refl, subst, sym, if◌then◌else◌}
-use Rattle.std.specs.Prelude.{All, Contains}
+use Rattle.std.proofs.Common.{◌≡◌, ℕ, ◌==◌, ◌++◌, ◌∙◌, Bool, Bor, List, [], ◌∷◌, Option, Some, None, ap, codes, length, map, option_map, refl, sym, if◌then◌else◌}
 use Rattle.std.proofs.lemmas.List.{length-map}
 use Rattle.std.proofs.lemmas.List.Elements.{All-contains}
 use Rattle.desk_core.specs.Listing.{AreHeldFiles, AreMountsWithExports, HeldFile, IsHeld, exports_file, seven_files}
@@ -18,11 +17,11 @@ use Rattle.page_html.specs.Tables.{rows_html, table_start}
 use Rattle.page_html.specs.Titles.{Said}
 use Rattle.page_html.specs.declared.blocks.Element.TheVariants.{Paragraph}
 use Rattle.page_html.specs.declared.blocks.Tag.TheVariants.{TableEnd}
-use Rattle.page_html.proofs.OneOrder.{AreAmong, one_text_order, told_alike}
+use Rattle.page_html.proofs.OneOrder.{one_text_order, told_alike}
 use Rattle.page_lists.specs.Files as of_files
-use Rattle.page_lists.specs.Files.{AddsFiles, AreFileRows}
+use Rattle.page_lists.specs.Files.{AddsFiles}
 use Rattle.page_lists.specs.Hosts as of_hosts
-use Rattle.page_lists.specs.Hosts.{AddsHosts, AreHostNames, AreHostRows, host, host_frame}
+use Rattle.page_lists.specs.Hosts.{AddsHosts, AreHostNames, host, host_frame}
 use Rattle.page_lists.specs.NameIndex.{written_names}
 use Rattle.page_lists.specs.Netgroups as of_netgroups
 use Rattle.page_lists.specs.Netgroups.{AddsNetgroups, members_of, netgroup, netgroup_frame, no_netgroup}
