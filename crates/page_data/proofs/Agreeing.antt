@@ -28,7 +28,7 @@ pub same_rank : (class other : Class) → rank_of class ≡ rank_of other → cl
 same_rank class other same = sym (back class) ∙ ap class_at_rank same ∙ back other
 
 -- two that are the most are the same
-one_most : (content : Content) (is_here : List (List ℕ) → Bool) (address : ℕ) (class other : Class) → IsMostOn content is_here address class → IsMostOn content is_here address other → class ≡ other
+pub one_most : (content : Content) (is_here : List (List ℕ) → Bool) (address : ℕ) (class other : Class) → IsMostOn content is_here address class → IsMostOn content is_here address other → class ≡ other
 one_most content is_here address class other most most' =
     let up : rank_of other ≤ rank_of class = (let h = most.none_more most'.path most'.here in omega (arith, ap rank_of most'.comes_to)) in
     let down : rank_of class ≤ rank_of other = (let h = most'.none_more most.path most.here in omega (arith, ap rank_of most.comes_to)) in

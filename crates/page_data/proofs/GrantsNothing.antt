@@ -93,7 +93,7 @@ module _ (content : Content) (fs : ℕ) (sound : IsSound content fs) (line addre
   named_grants path home names = named_among path home (filter passes (rows_of content fs)) refl (ap (names_line line) (sym (verdict_here path home)) ∙ names)
 
 -- what a line grants names it
-named_by : (content : Content) (fs line address : ℕ) → address < 2 ^ 32 → GrantsTo content fs line address → IsNamed content fs line
+pub named_by : (content : Content) (fs line address : ℕ) → address < 2 ^ 32 → GrantsTo content fs line address → IsNamed content fs line
 named_by content fs line address fits grants = record {
   address = address;
   path = grants.path;

@@ -200,7 +200,7 @@ module _ {A : Type 0} where
       some_is : (x y : A) → Some x ≡ Some y → x ≡ y
       some_is x y e = cc
 
-  grouped_alike : (alike other : A → A → Bool) (values : List A) (groups : List (List A)) → ((x y : A) → Contains values x → Contains values y → alike x y ≡ other x y)
+  pub grouped_alike : (alike other : A → A → Bool) (values : List A) (groups : List (List A)) → ((x y : A) → Contains values x → Contains values y → alike x y ≡ other x y)
       → AreGrouped alike values groups → AreGrouped other values groups
   grouped_alike alike other values [] same are = are
   grouped_alike alike other values ([] ∷ groups) same are = absurd are

@@ -37,3 +37,9 @@ pub mod Stepping
 pub mod Tabled
 pub mod Told
 pub mod OpeningsFound
+pub mod OneOrder
+pub mod UniquePlaces
+pub mod UniqueCounts
+pub mod UniqueGroups
+pub mod UniqueGrants
+pub mod UniqueReasons

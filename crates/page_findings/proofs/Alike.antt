@@ -1,5 +1,5 @@
 -- What is told of lines depends on their values alone.
-use Rattle.std.proofs.Common.{◌≡◌, ℕ, ◌==◌, ◌||◌, ◌++◌, ◌∙◌, Bool, true, false, List, [], ◌∷◌, ap, if◌then◌else◌, length, map, not, refl, sym}
+use Rattle.std.proofs.Common.{◌≡◌, ℕ, ◌==◌, ◌||◌, ◌++◌, ◌∙◌, Bool, false, List, [], ◌∷◌, ap, if◌then◌else◌, length, map, not, refl, sym}
 use Rattle.std.specs.Prelude.{count_by, filter}
 use Rattle.std.specs.List.{dedup, flat_map, list_any}
 use Rattle.std.proofs.lemmas.List.{length-map}

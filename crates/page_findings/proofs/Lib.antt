@@ -18,3 +18,4 @@ pub mod Gathering
 pub mod OneSorting
 pub mod Alike
 pub mod Unique
+pub mod FewFlavours

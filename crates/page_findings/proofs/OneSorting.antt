@@ -1,5 +1,5 @@
 -- A list that is sorted by a key which tells its elements apart stands in one order.
-use Rattle.std.proofs.Common.{◌≡◌, ℕ, zero, suc, ◌+◌, ◌<◌, ◌≤◌, ◌∙◌, Bool, true, false, not, cond, List, [], ◌∷◌, ap, arith, bytes_eq, drop, get_or, inl, inr, length, map, nat_cmp, not-suc-le-zero, refl, subst, sym, true≢false, IsPermutation, IsSortedByKey}
+use Rattle.std.proofs.Common.{◌≡◌, ℕ, suc, ◌+◌, ◌<◌, ◌≤◌, ◌∙◌, Bool, true, false, cond, List, [], ◌∷◌, ap, arith, bytes_eq, drop, get_or, inl, inr, length, map, nat_cmp, not-suc-le-zero, refl, sym, true≢false, IsPermutation, IsSortedByKey}
 use Rattle.std.specs.Prelude.{All, Contains, count_by}
 use Rattle.std.specs.Cmp.Lexicographic.{slice_cmp}
 use Rattle.std.specs.Ordering.{is_eq, is_lt, ordering_reverse}
@@ -39,7 +39,7 @@ module _ {X : Type 0} (test : X → Bool) where
       elim (cases_Bool (test x)) as (λ _. (z : X) × Contains (x ∷ xs) z × (test z ≡ true)) [
         | inl passes ↦ (x, here x x xs refl, passes)
         | inr fails ↦
-            let left : count_by test (x ∷ xs) ≡ count_by test xs = counted x xs ∙ ap (λ b. cond b 1 0 + count_by test xs) fails in
+            let left : count_by test (x ∷ xs) ≡ 0 + count_by test xs = counted x xs ∙ ap (λ b. cond b 1 0 + count_by test xs) fails in
             let found = some xs (omega arith) in
             (found.0, there x found.0 xs found.1, found.2)
       ]

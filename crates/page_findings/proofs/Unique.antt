@@ -1,8 +1,8 @@
 -- What is found of the lines of a site is found in one way, by value.
-use Rattle.std.proofs.Common.{◌≡◌, ℕ, zero, suc, ◌+◌, ◌-◌, ◌^◌, ◌<◌, ◌≤◌, ◌==◌, ◌||◌, ◌∙◌, Bool, true, false, not, List, [], ◌∷◌, Option, Some, None, ap, arith, get_or, if◌then◌else◌, length, map, nat_cmp, refl, subst, sym, slice_get, IsPermutation, IsSortedByKey}
+use Rattle.std.proofs.Common.{◌≡◌, ℕ, zero, suc, ◌+◌, ◌-◌, ◌^◌, ◌<◌, ◌≤◌, ◌==◌, ◌∙◌, not, List, [], ◌∷◌, ap, arith, get_or, if◌then◌else◌, length, map, nat_cmp, refl, subst, sym, IsPermutation, IsSortedByKey}
 use Rattle.std.specs.Prelude.{All, Contains, filter}
 use Rattle.std.specs.Cmp.Lexicographic.{slice_cmp}
-use Rattle.std.specs.List.{flat_map, list_any, range_with_len}
+use Rattle.std.specs.List.{flat_map, range_with_len}
 use Rattle.std.proofs.lemmas.List.{ext_get_or, get_or-map, length-map}
 use Rattle.std.proofs.lemmas.List.Elements.{All-append, All-cons, All-contains, All-filter, All-head, All-map, All-nil, All-tail}
 use Rattle.std.proofs.lemmas.List.Sorted.{IsPermutation-map}
@@ -14,13 +14,9 @@ use Rattle.desk_policy.specs.declared.row.Row.{Row}
 use Rattle.page_data.specs.Grants.{GrantsTo, HoldsOf}
 use Rattle.page_data.specs.Laws.{IsSound, IsSoundSite}
 use Rattle.page_data.specs.Lines.{IsToldOf}
-use Rattle.page_data.specs.Reasons.{is_first, is_first_level, level_of, level_of_all}
-use Rattle.page_data.specs.Unique.{Another, GrantsMore, ReasonValue, ReasonsValue, WhatIsFoundIsUnique, reason_value, reasons_value}
+use Rattle.page_data.specs.Unique.{ReasonsValue, WhatIsFoundIsUnique, reason_value}
 use Rattle.page_data.specs.declared.lines.LineReasons.{LineReasons}
-use Rattle.page_data.specs.declared.reasons.Level.{Level}
 use Rattle.page_data.specs.declared.reasons.Level.TheVariants.{LookFirst, Check}
-use Rattle.page_data.specs.declared.reasons.Reason.{Reason}
-use Rattle.page_data.specs.declared.reasons.Reason.TheVariants.{NoClient, NeverDecides, ForEverybodyReadOnly, ForEverybodyReadWrite, Wide, RootKeptForNetworks, RootKeptForNames, ServerGrantsMore, RepeatedClient}
 use Rattle.page_data.proofs.Selecting.{one_by_number}
 use Rattle.page_html.proofs.OneOrder.{one_order}
 use Rattle.page_findings.specs.Deciding.{AreDecidedFor, AreDeciding, DecidedFor, DecidesFor, IsDecidedFor}
@@ -31,7 +27,7 @@ use Rattle.page_findings.specs.Flavours.{AreFlavoursInUse, UseValue, each_once, 
 use Rattle.page_findings.specs.Lines.{AreLinesOfSite, AreReasonsOfSite, IsLineOf, LineValue, PlacedRow, flavours_of, grants, placed, placed_in, rows_in}
 use Rattle.page_findings.specs.UniqueLaws.{AllHaveLikeReasons, AreAlike, HasFewFlavours, KnownLine, LinesAreToldInOneWay, known_line, known_reasons}
 use Rattle.page_findings.proofs.Alike.{directories_alike, first_among, known_standing, level_of_known, never_by, never_lines, stands_by, uses_alike}
-use Rattle.page_findings.proofs.Mapped.{filter_mapped, sorted_mapped}
+use Rattle.page_findings.proofs.Mapped.{sorted_mapped}
 use Rattle.page_findings.proofs.OneSorting.{one_sorting, same_values}
 
 unmapped : {X : Type 0} (xs : List X) → map (λ x. x) xs ≡ xs

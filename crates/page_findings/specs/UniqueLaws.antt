@@ -1,6 +1,8 @@
 -- What is found of the lines of a site is found in one way, by value. (this project's own)
-use Rattle.std.specs.Prelude.{◌≡◌, ℕ, ◌≤◌, All, List, length, map}
+use Rattle.std.specs.Prelude.{◌≡◌, ℕ, ◌≤◌, All, List, Ok, length, map}
+use Rattle.desk_policy.specs.Parsing.{read_site}
 use Rattle.desk_policy.specs.Policy.{Content}
+use Rattle.desk_policy.specs.Site.{SiteTexts}
 use Rattle.desk_policy.specs.declared.row.Row.{Row}
 use Rattle.page_data.specs.Laws.{IsSound, IsSoundSite}
 use Rattle.page_data.specs.Unique.{ReasonValue, ReasonsValue, reason_value, reasons_value}
@@ -52,3 +54,9 @@ pub record LinesAreToldInOneWay : Type 0 where
       → HasDirectories others other → count ≡ other
   pub flavours : (lines others : List LineValue) (uses other_uses : List UseValue) → AreAlike lines others → All HasFewFlavours lines
       → AreFlavoursInUse lines uses → AreFlavoursInUse others other_uses → uses ≡ other_uses
+
+-- The lines of a site that is read have no more flavours than there are.
+abbrev pub ReadLinesHaveFewFlavours : Type 0
+ReadLinesHaveFewFlavours =
+    (texts : SiteTexts) (content : Content) → read_site texts ≡ Ok content → (lines : List LineValue) → AreLinesOfSite content lines
+    → All HasFewFlavours lines

@@ -33,7 +33,7 @@ pub use figures::{Figures, figures_of_site};
 pub use finding_words::{Finding, finding_parts};
 pub use findings::findings_of_site;
 pub use flavours::{FlavourUse, flavours_in_use};
-pub use laws::{counted_lines_grant, lines_are_told_in_one_way};
+pub use laws::{counted_lines_grant, lines_are_told_in_one_way, read_lines_have_few_flavours};
 pub use lines::{SiteLine, lines_of_site};
 pub use reasons::reasons_of_site;
 pub use server::server_of_site;

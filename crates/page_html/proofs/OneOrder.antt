@@ -1,5 +1,5 @@
 -- Lists in a strict order that have the same elements are the same, and what is told by value is the same of the same values.
-use Rattle.std.proofs.Common.{◌≡◌, ℕ, suc, zero, ◌++◌, ◌∙◌, true, false, List, [], ◌∷◌, ap, arith, inl, inr, map, nat_cmp, refl, subst, sym, true≢false}
+use Rattle.std.proofs.Common.{◌≡◌, ℕ, suc, zero, ◌∙◌, true, List, [], ◌∷◌, ap, arith, inl, inr, map, nat_cmp, refl, subst, sym, true≢false}
 use Rattle.std.specs.Prelude.{◌⊎◌, Contains}
 use Rattle.std.specs.Cmp.Lexicographic.{slice_cmp}
 use Rattle.std.specs.List.{AllPairs}
