@@ -17,6 +17,10 @@ use Rattle.desk_policy.proofs.SaidOfLines.{site_holds}
 use Rattle.page_findings.specs.Lines.{IsLineOf}
 use Rattle.page_findings.specs.UniqueLaws.{HasFewFlavours, ReadLinesHaveFewFlavours}
 
+-- what counts for a test
+abbrev tally : Bool → ℕ
+tally passes = cond passes 1 0
+
 -- ---- how many of a list pass a test, and of those that another test keeps
 module _ {X : Type 0} (test : X → Bool) where
   counted : (x : X) (xs : List X) → count_by test (x ∷ xs) ≡ cond (test x) 1 0 + count_by test xs
@@ -102,18 +106,18 @@ left_out Krb5p Krb5i other is kept = absurd (true≢false (sym is))
 once : (one : Flavour) (flavours : List Flavour) → count_by (is_of one) (each_flavour_once flavours) ≤ 1
 once one [] = omega arith
 once one (flavour ∷ flavours) =
-    let keep = λ other. not (same_flavour other flavour) in
+    let keep : Flavour → Bool = λ other. not (same_flavour other flavour) in
     let others = each_flavour_once flavours in
     let all = counted (is_of one) flavour (filter keep others) in
     let rest = once one flavours in
     elim (cases_Bool (is_of one flavour)) as (λ _. count_by (is_of one) (flavour ∷ filter keep others) ≤ 1) [
       | inl is ↦
           let nothing = none (is_of one) keep (λ other kept. left_out one flavour other is kept) others in
-          let first : cond (is_of one flavour) 1 0 ≡ 1 = ap (λ b. cond b 1 0) is in
+          let first : tally (is_of one flavour) ≡ 1 = ap tally is in
           omega arith
       | inr apart ↦
           let some = fewer (is_of one) keep others in
-          let first : cond (is_of one flavour) 1 0 ≡ 0 = ap (λ b. cond b 1 0) apart in
+          let first : tally (is_of one flavour) ≡ 0 = ap tally apart in
           omega arith
     ]
 

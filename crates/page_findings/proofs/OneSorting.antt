@@ -25,6 +25,10 @@ same_text text other above below =
     (bytes_eq-Decides text other).0
     (sym (is_eq-slice_cmp text other) ∙ neither (slice_cmp nat_cmp text other) above (ap is_lt (sym (nat_list_cmp_total.antisymm other text)) ∙ below))
 
+-- what counts for a test
+abbrev tally : Bool → ℕ
+tally passes = cond passes 1 0
+
 module _ {X : Type 0} (test : X → Bool) where
   counted : (x : X) (xs : List X) → count_by test (x ∷ xs) ≡ cond (test x) 1 0 + count_by test xs
   counted x xs = sum_by-cons (λ y. cond (test y) 1 0) x xs
@@ -93,7 +97,7 @@ module _ {X : Type 0} (key : X → List ℕ) where
       let as_many = many text in
       let mine = counted (has text) x xs in
       let its = counted (has text) y ys in
-      let first : cond (has text x) 1 0 ≡ cond (has text y) 1 0 = ap (λ z. cond (has text z) 1 0) same in
+      let first : tally (has text x) ≡ tally (has text y) = ap (λ (z : X). tally (has text z)) same in
       omega arith
       in
       ap (λ z. z ∷ xs) same
