@@ -12,7 +12,7 @@ ghost use Rattle.page_summary.specs.SiteFinding.{finding_value};
 
 use crate::files::{line_in, name_of, texts_in_force};
 use crate::findings::{FindingRow, push_counted_findings, push_findings};
-use crate::shared_rows::shared_rows;
+use crate::shared_rows::rows_of_findings;
 use crate::site_finding::{SiteFinding, site_findings};
 use desk_core::Head;
 use desk_policy::Policy;
@@ -40,7 +40,7 @@ pub fn push_findings_of<'a>(
     let told = site_findings(alloc, found.as_slice(), deciding)?;
     let texts = texts_in_force(alloc, table.as_slice(), heads)?;
     let standing = finding_rows(alloc, table, texts.as_slice(), told.as_slice())?;
-    let rows = shared_rows(alloc, standing.as_slice())?;
+    let rows = rows_of_findings(alloc, standing.as_slice())?;
     push_counted_findings(alloc, standing.as_slice(), page)?;
     push_findings(alloc, rows.as_slice(), page)
 }

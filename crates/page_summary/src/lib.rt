@@ -42,7 +42,7 @@ pub use laws::{alike_lines_share_a_row, named_lines_decide};
 pub use overview::{Reach, SystemRow, push_overview};
 pub use proposals::{ProposalRow, push_standing_proposals};
 pub use sections::{Section, push_footer, push_section_end, push_section_start};
-pub use shared_rows::shared_rows;
+pub use shared_rows::rows_of_findings;
 pub use site_finding::{SiteFinding, site_findings};
 pub use state::state_digest;
 pub use system_rows::{SystemsData, push_overview_of};

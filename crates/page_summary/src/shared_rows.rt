@@ -20,7 +20,7 @@ use std::alloc::{AllocError, Global};
 use std::collections::BTreeMap;
 
 /// Puts lines that stand out into rows of those that are told alike: in the order of the first line of each, and of their lines.
-pub fn shared_rows<'a>(
+pub fn rows_of_findings<'a>(
     alloc: Global,
     lines: &[FindingRow<'a>],
 ) -> Result<Vec<Sequence<FindingRow<'a>>>, AllocError>

@@ -2,7 +2,7 @@
 use Rattle.std.proofs.Common.{take}
 use Rattle.page_summary.specs.PrivateSharedRows.{ArePlaced}
 use Rattle.page_summary.specs.SharedRows.{AreSharedRows}
-use Rattle.page_summary.proofs.shared_rows.shared_rows.Given as goal
+use Rattle.page_summary.proofs.shared_rows.rows_of_findings.Given as goal
 
 abbrev pub invariant-loop-line : goal.invariant-loop-line
 invariant-loop-line l = record {

@@ -4,7 +4,7 @@ use Rattle.page_data.proofs.Grouped.{grouped_more}
 use Rattle.page_summary.specs.SharedRows.{AreSharedRows, are_told_alike}
 use Rattle.page_summary.specs.declared.findings.FindingRow.{FindingRow}
 use Rattle.page_summary.proofs.Sharing.{along, back, itself, same_added}
-use Rattle.page_summary.proofs.shared_rows.shared_rows.Goals as goal
+use Rattle.page_summary.proofs.shared_rows.rows_of_findings.Goals as goal
 
 pub loop-line-preserved : goal.loop-line-preserved
 loop-line-preserved c =
