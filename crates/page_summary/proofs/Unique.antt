@@ -54,7 +54,7 @@ use Rattle.page_summary.specs.declared.overview.Reach.{Reach}
 use Rattle.page_summary.specs.declared.overview.SystemRow.{SystemRow}
 
 some_is : {X : Type 0} (x y : X) → Some x ≡ Some y → x ≡ y
-some_is x y same = ap (λ (o : Option X). unwrap_or o x) same
+some_is {X = X} x y same = ap (λ (o : Option X). unwrap_or o x) same
 
 -- ---- the state, and the header
 
