@@ -60,10 +60,7 @@ fn push_first(
 }
 
 /// Gathers where the first of some lines stand, and how many more there are.
-fn places_parts<'a>(
-    alloc: Global,
-    lines: &[FindingRow<'a>],
-) -> Result<Vec<Part<'a>>, AllocError>
+fn places_parts<'a>(alloc: Global, lines: &[FindingRow<'a>]) -> Result<Vec<Part<'a>>, AllocError>
     ensures { IfOk result (λ parts. map item_of parts.items ≡ spec.places lines.now) }
 {
     let mut parts = Vec::new(alloc);
@@ -74,10 +71,7 @@ fn places_parts<'a>(
 }
 
 /// Adds where lines stand, with breaks between them.
-fn push_places<'a>(
-    lines: &[FindingRow<'a>],
-    parts: &mut Vec<Part<'a>>,
-) -> Result<(), AllocError>
+fn push_places<'a>(lines: &[FindingRow<'a>], parts: &mut Vec<Part<'a>>) -> Result<(), AllocError>
     ensures { OnOk result (map item_of parts.new.items ≡ map item_of parts.old.items ++ spec.some_places lines.now) }
 {
     match lines {

@@ -11,7 +11,9 @@ use desk_exports::Clients;
 use desk_text::Sequence;
 use page_data::Level;
 use page_findings::Finding;
-use page_html::{Column, Element, Frame, Part, Tag, Title, push_element, push_table_start, push_tag};
+use page_html::{
+    Column, Element, Frame, Part, Tag, Title, push_element, push_table_start, push_tag,
+};
 use std::alloc::{AllocError, Global};
 
 /// How many rows of lines that stand out stand in the open.
@@ -132,7 +134,11 @@ fn push_open_and_folded(
 }
 
 /// Adds rows that are folded.
-fn push_folded(alloc: Global, rows: &[Sequence<FindingRow<'_>>], page: &mut String) -> Result<(), AllocError>
+fn push_folded(
+    alloc: Global,
+    rows: &[Sequence<FindingRow<'_>>],
+    page: &mut String,
+) -> Result<(), AllocError>
     ensures { OnOk result (string_bytes page.new ≡ string_bytes page.old ++ spec.folded_rows rows.now) }
 {
     let count = rows.len() as u64;
