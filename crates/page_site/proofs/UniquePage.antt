@@ -15,10 +15,9 @@ use Rattle.desk_core.specs.declared.head.Head.{Head}
 use Rattle.desk_core.specs.declared.proposal.Proposal.{Proposal}
 use Rattle.page_data.specs.Laws.{IsSoundIfRead, IsSoundSite}
 use Rattle.page_data.specs.Opening.{AreOpenings}
-use Rattle.page_data.specs.Systems.{AreSystems, SystemValue}
+use Rattle.page_data.specs.Systems.{SystemValue}
 use Rattle.page_data.specs.Unique.{WhatIsFoundIsUnique}
 use Rattle.page_data.specs.declared.opening.Opening.{Opening}
-use Rattle.page_findings.specs.Deciding.{DecidedFor}
 use Rattle.page_findings.specs.Lines.{AreLinesOfSite}
 use Rattle.page_findings.specs.UniqueLaws.{AllHaveLikeReasons, AreAlike, HasFewFlavours, LinesAreToldInOneWay, ReadLinesHaveFewFlavours}
 use Rattle.page_html.specs.Head.{page_head}
@@ -47,11 +46,11 @@ use Rattle.page_summary.specs.declared.flavours.FlavoursRow.{FlavoursRow}
 use Rattle.page_summary.specs.declared.header.Header.{Header}
 use Rattle.page_summary.specs.declared.sections.Section.{Section}
 use Rattle.page_summary.specs.declared.sections.Section.TheVariants.{Each, Files, Names, Networks, Systems, Warnings}
-use Rattle.page_site.specs.FoundInSite.{AreDecidedOfSite, AreSmallMaps, Found, IsFound, Source}
-use Rattle.page_site.specs.Page.{AreFiles, AreLists, AreNames, AreTables, InSection, IsBack, IsBeginning, IsFront, IsHeader, IsPage, IsPageOf, IsSource, IsSummary, parts_of}
+use Rattle.page_site.specs.FoundInSite.{AreSmallMaps, Found, IsFound, Source}
+use Rattle.page_site.specs.Page.{AreFiles, AreLists, AreNames, AreTables, InSection, IsBack, IsBeginning, IsFront, IsHeader, IsPage, IsPageOf, IsSummary, parts_of}
 use Rattle.page_site.specs.Pieces.{Just, Then, Told}
 use Rattle.page_site.specs.SystemParts.{AreSystemTexts}
-use Rattle.page_site.specs.UniqueLaws.{HasOneText, PagesAreToldInOneWay, SystemsAreToldInOneWay}
+use Rattle.page_site.specs.UniqueLaws.{PagesAreToldInOneWay, SystemsAreToldInOneWay}
 use Rattle.page_site.specs.WaitingProposals.{AreWaiting, Waiting}
 use Rattle.page_site.specs.WideningProposals.{AreWidening}
 

@@ -1,4 +1,4 @@
-use Rattle.std.proofs.Common.{◌≡◌, ◌∙◌, [], Some, None, ap, map, refl, subst, sym}
+use Rattle.std.proofs.Common.{◌∙◌, [], ap, map, refl, subst, sym}
 use Rattle.std.specs.Prelude.{◌==◌, IfSome, OnOk, option_map}
 use Rattle.std.specs.Option.{option_copied}
 use Rattle.std.proofs.lemmas.List.{append-nil}

@@ -1,4 +1,4 @@
-use Rattle.std.proofs.Common.{◌≡◌, ◌∙◌, [], ap, arith, length, map, subst, sym}
+use Rattle.std.proofs.Common.{◌≡◌, ◌∙◌, ap, arith, length, map, subst, sym}
 use Rattle.desk_policy.specs.Policy.{Content}
 use Rattle.page_summary.specs.Proposals.{proposal_value}
 use Rattle.page_site.specs.WaitingProposals.{waiting_value}
