@@ -36,9 +36,9 @@ use Rattle.page_html.specs.declared.ranges.Span.{Span}
 use Rattle.page_maps.specs.Figures.{GainsGroupMaps}
 use Rattle.page_maps.specs.Laws.{MapsAreToldInOneWay}
 use Rattle.page_places.specs.Groups.{group_block, group_text, groups_text, who_block}
-use Rattle.page_places.specs.ListedGroups.{AreListed, IsPart, PartValue, are_drawn, listed_value, most_listed, part_value}
+use Rattle.page_places.specs.ListedGroups.{AreListed, IsPart, PartValue, listed_value, most_listed, part_value}
 use Rattle.page_places.specs.ListedOpenings.{AreOpeningsOf}
-use Rattle.page_places.specs.Maps.{AreMapsIf, AreMapsOf, AreMapsOfGroup, grants_some}
+use Rattle.page_places.specs.Maps.{AreMapsIf, AreMapsOf, AreMapsOfGroup, are_drawn, grants_some}
 use Rattle.page_places.specs.Names.{heading, members_in, place_item}
 use Rattle.page_places.specs.Openings.{OpeningValue, opening_items, opening_value, openings_text}
 use Rattle.page_places.specs.Rows.{RowValue, row_value}

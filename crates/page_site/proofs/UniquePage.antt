@@ -148,7 +148,7 @@ module _ (lists : ListsAreToldInOneWay) (summary : SummaryIsToldInOneWay) (lines
     one_findings : (one two : FindingTable) → AreFindingRows source.content.table source.heads found.decided found.lines one
         → AreFindingRows source.content.table source.heads other.decided other.lines two → findings_text one ≡ findings_text two
     one_findings one two is its =
-        summary.findings source.content source.heads found.decided found.lines other.lines one two sound is_found.lines is_other.lines is
+        summary.findings source.content source.content.table source.heads found.decided found.lines other.lines one two sound is_found.lines is_other.lines is
         (subst (λ told. AreFindingRows source.content.table source.heads told other.lines two) (sym same_decided) its)
 
     one_flavours : (rows others : List FlavoursRow) → AreFlavoursRows source.content.table found.lines rows

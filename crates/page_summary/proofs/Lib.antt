@@ -1,5 +1,6 @@
 pub mod Valued
 pub mod Rowed
+pub mod UniqueFindings
 pub mod Unique
 pub mod Standing
 pub mod Looking

@@ -35,6 +35,7 @@ use Rattle.page_lists.specs.UniqueLaws.{ListsAreToldInOneWay}
 use Rattle.page_lists.specs.Uses.{MentionValue, OfSystem, mention_value}
 use Rattle.page_lists.specs.declared.mentions.Mention.{Mention}
 use Rattle.page_lists.specs.declared.mentions.Mention.TheVariants as lent
+use Rattle.page_summary.proofs.UniqueFindings.{one_text_of_findings}
 use Rattle.page_lists.proofs.Lent.{lend, mention_of, some_again}
 use Rattle.page_summary.specs.Files.{file_of, has_proposal, name_of, newest_of}
 use Rattle.page_summary.specs.FlavoursRows.{AreFlavoursRows, FlavoursValue, NamedSystem, mentioned, named_in, row_of, row_value}
@@ -263,6 +264,7 @@ summary_is_told_in_one_way unique law lists = record {
   state = one_digest lists;
   heading = one_header;
   figures = one_list_of_figures law;
+  findings = one_text_of_findings law;
   flavours = one_flavours_table law;
   overview = one_overview unique;
 }

@@ -3,7 +3,7 @@ use Rattle.std.specs.Prelude.{ℕ, ◌==◌, ◌-◌, Bool, List, [], ◌∷◌,
 use Rattle.std.specs.List.{flat_map}
 use Rattle.page_html.specs.Blocks.{element_html, tag_html}
 use Rattle.page_html.specs.Items.{AndMore, Break, Item, Line, LineLink, Link, Number, Own, PartOf, Plural, System, Words}
-use Rattle.page_html.specs.Tables.{Count, Frame, Name, Plain, row_html, table_start}
+use Rattle.page_html.specs.Tables.{Column, Count, Frame, Name, Plain, row_html, table_start}
 use Rattle.page_html.specs.Titles.{Said}
 use Rattle.page_html.specs.declared.blocks.Element.TheVariants.{Fold, Paragraph}
 use Rattle.page_html.specs.declared.blocks.Tag.TheVariants.{FoldEnd, TableEnd}
@@ -28,22 +28,15 @@ counts first others =
 abbrev pub counted_findings : List FindingRow → List ℕ
 counted_findings rows = counts (count_by is_first_row rows) (length rows - count_by is_first_row rows)
 
--- the table of lines that stand out, and that of more of them
+-- the columns of the table of lines that stand out, and of that of more of them
+abbrev pub columns : List Column
+columns = Name (codes "Level") ∷ Plain (codes "Where") ∷ Plain (codes "What, and the line as written") ∷ Count (codes "Addresses") ∷ []
+
 abbrev pub findings_frame : Frame
-findings_frame = record {
-  class = codes "f";
-  is_titled = false;
-  columns =
-      Name (codes "Level") ∷ Plain (codes "Where") ∷ Plain (codes "What, and the line as written") ∷ Count (codes "Addresses") ∷ [];
-}
+findings_frame = record { class = codes "f"; is_titled = false; columns = columns }
 
 abbrev pub more_frame : Frame
-more_frame = record {
-  class = codes "f";
-  is_titled = true;
-  columns =
-      Name (codes "Level") ∷ Plain (codes "Where") ∷ Plain (codes "What, and the line as written") ∷ Count (codes "Addresses") ∷ [];
-}
+more_frame = record { class = codes "f"; is_titled = true; columns = columns }
 
 -- links to the file system of a line, and to the line
 abbrev pub place : FindingRow → List (Item (List ℕ))

@@ -9,7 +9,6 @@ use Rattle.page_html.specs.Tables.{Column, Count, Frame, Name, Plain, cells_html
 use Rattle.page_html.specs.Titles.{Said}
 use Rattle.page_html.specs.declared.blocks.Tag.TheVariants.{TableEnd}
 use Rattle.page_findings.specs.Badges.{badge_item}
-use Rattle.page_data.specs.declared.class.Class.{Class}
 use Rattle.page_summary.specs.declared.overview.Reach.{Reach}
 use Rattle.page_summary.specs.declared.overview.SystemRow.{SystemRow}
 use Rattle.page_summary.specs.declared.overview.TheConstants.{LEGEND}

@@ -10,7 +10,7 @@ ghost use Rattle.page_summary.specs.Findings as spec;
 
 use crate::findings::{FindingRow, SPACE};
 use page_findings::{finding_parts, level_part};
-use page_html::{Frame, Part, four_cells, push_row};
+use page_html::{Frame, Part, push_row};
 use std::alloc::{AllocError, Global};
 
 /// So many of the lines of a row are named.
@@ -23,7 +23,7 @@ pub(crate) fn push_lines(
     lines: &[FindingRow<'_>],
     page: &mut String,
 ) -> Result<(), AllocError>
-    requires { length frame.now.columns.now ≡ 4 }
+    requires { length frame.now.columns.now ≡ length spec.columns }
     ensures { OnOk result (string_bytes page.new ≡ string_bytes page.old ++ spec.lines_html (frame_of frame.now) lines.now) }
 {
     match lines {
@@ -40,7 +40,7 @@ fn push_first(
     lines: &[FindingRow<'_>],
     page: &mut String,
 ) -> Result<(), AllocError>
-    requires { length frame.now.columns.now ≡ 4 }
+    requires { length frame.now.columns.now ≡ length spec.columns }
     ensures { OnOk result (string_bytes page.new ≡ string_bytes page.old ++ row_html (frame_of frame.now) (spec.cells first.now lines.now)) }
 {
     let places = places_parts(alloc, lines)?;
@@ -48,7 +48,7 @@ fn push_first(
     push_row(
         alloc,
         frame,
-        &four_cells(
+        &page_html::four_cells(
             &[level_part(first.finding.level())],
             places.as_slice(),
             what.as_slice(),

@@ -22,28 +22,26 @@ const OPEN: usize = 24;
 /// How many addresses there are.
 pub(crate) const SPACE: u64 = 4_294_967_296;
 
+/// The columns of the tables.
+const COLUMNS: &[Column] = &[
+    Column::Name("Level"),
+    Column::Plain("Where"),
+    Column::Plain("What, and the line as written"),
+    Column::Count("Addresses"),
+];
+
 /// Lines that stand out.
 const FINDINGS: Frame = Frame {
     class: "f",
     is_titled: false,
-    columns: &[
-        Column::Name("Level"),
-        Column::Plain("Where"),
-        Column::Plain("What, and the line as written"),
-        Column::Count("Addresses"),
-    ],
+    columns: COLUMNS,
 };
 
 /// More lines that stand out.
 const MORE_FINDINGS: Frame = Frame {
     class: "f",
     is_titled: true,
-    columns: &[
-        Column::Name("Level"),
-        Column::Plain("Where"),
-        Column::Plain("What, and the line as written"),
-        Column::Count("Addresses"),
-    ],
+    columns: COLUMNS,
 };
 
 /// A line that stands out, for whom it is, the name of its file system, its text, and to how many addresses it grants something.
@@ -166,7 +164,7 @@ fn push_table(
     rows: &[Sequence<FindingRow<'_>>],
     page: &mut String,
 ) -> Result<(), AllocError>
-    requires { length frame.now.columns.now ≡ 4 }
+    requires { length frame.now.columns.now ≡ length spec.columns }
     ensures { OnOk result (string_bytes page.new ≡ string_bytes page.old ++ spec.table (frame_of frame.now) title.now rows.now) }
 {
     push_table_start(alloc, frame, &[Title::Said(title)], page)?;
@@ -181,7 +179,7 @@ fn push_rows(
     rows: &[Sequence<FindingRow<'_>>],
     page: &mut String,
 ) -> Result<(), AllocError>
-    requires { length frame.now.columns.now ≡ 4 }
+    requires { length frame.now.columns.now ≡ length spec.columns }
     ensures { OnOk result (string_bytes page.new ≡ string_bytes page.old ++ flat_map (spec.lines_html (frame_of frame.now)) rows.now) }
 {
     for row in rows {

@@ -1,0 +1,306 @@
+-- The lines that stand out are told in one way: what is said of them, and in which rows, depends on their values alone.
+use Rattle.std.proofs.Common.{◌≡◌, ℕ, ◌-◌, ◌==◌, ◌||◌, ◌++◌, ◌∙◌, Bool, Bor, not, List, [], ◌∷◌, Option, Some, None, ap, arith, bytes_eq, codes, drop, if◌then◌else◌, is_none, length, map, nat_le, option_copied, option_map, refl, slice_get, subst, sym, take, true≢false, unwrap_or}
+use Rattle.std.specs.Prelude.{count_by, filter}
+use Rattle.std.specs.List.{flat_map, list_any}
+use Rattle.std.proofs.lemmas.List.{drop-map, length-map, take-map}
+use Rattle.desk_core.specs.declared.head.Head.{Head}
+use Rattle.desk_exports.specs.declared.entry.Clients.{Clients}
+use Rattle.desk_exports.specs.declared.entry.Clients.TheVariants.{Hosts, Net, Net6, World}
+use Rattle.desk_exports.specs.declared.entry.Terms.{Terms}
+use Rattle.desk_policy.specs.Policy.{Content}
+use Rattle.desk_tables.specs.declared.filesystems.Mount.{Mount}
+use Rattle.desk_text.specs.declared.address.Addr.{Addr}
+use Rattle.page_data.specs.Groups.{AreGrouped}
+use Rattle.page_data.specs.Laws.{IsSoundSite}
+use Rattle.page_data.specs.Reasons.{is_first, is_first_level, level_of_all}
+use Rattle.page_data.specs.Unique.{Another, GrantsMore, ReasonValue, reason_value}
+use Rattle.page_data.specs.declared.reasons.Level.TheVariants.{LookFirst, Check}
+use Rattle.page_data.specs.declared.reasons.Reason.{Reason}
+use Rattle.page_data.specs.declared.reasons.Reason.TheVariants.{NoClient, NeverDecides, ForEverybodyReadOnly, ForEverybodyReadWrite, Wide, RootKeptForNetworks, RootKeptForNames, ServerGrantsMore, RepeatedClient}
+use Rattle.page_html.specs.Items.{AndMore, Break, Item, Line, Number, Own, PartOf, Terms as TermsOf, items_html}
+use Rattle.page_html.specs.Items as items
+use Rattle.page_html.specs.Blocks.{tag_html}
+use Rattle.page_html.specs.Tables.{Frame, row_html, table_start}
+use Rattle.page_html.specs.Titles.{Said}
+use Rattle.page_html.specs.declared.blocks.Tag.TheVariants.{FoldEnd, TableEnd}
+use Rattle.page_findings.specs.Badges.{level_item}
+use Rattle.page_findings.specs.Deciding.{DecidedFor}
+use Rattle.page_findings.specs.FindingWords.{finding_items, reason_items, reasons_items, wider}
+use Rattle.page_findings.specs.Findings.{stands_out}
+use Rattle.page_findings.specs.Joining.{comma, joined}
+use Rattle.page_findings.specs.Lines.{AreLinesOfSite, LineValue}
+use Rattle.page_findings.specs.UniqueLaws.{KnownLine, LinesAreToldInOneWay, known_line}
+use Rattle.page_findings.proofs.Alike.{known_standing, stands_by}
+use Rattle.page_findings.proofs.Mapped.{count_mapped, filter_mapped, map_twice}
+use Rattle.page_lists.proofs.Lent.{lend}
+use Rattle.page_summary.specs.Files.{line_in, name_of, text_in_force}
+use Rattle.page_summary.specs.FindingRows.{AreFindingRows, FindingTable, RowValue, findings_text, row_of, row_value}
+use Rattle.page_summary.specs.Findings as of_findings
+use Rattle.page_summary.specs.Findings.{counted_findings, counts, findings, findings_frame, fold_start, folded_rows, is_first_row, lines_html, more_frame, no_finding, open_and_folded, open_rows, place, places, table, what}
+use Rattle.page_summary.specs.SharedRows.{are_told_alike, told, told_of}
+use Rattle.page_summary.specs.SiteFinding.{deciding_for, finding_of, findings_among, is_for_network}
+use Rattle.page_summary.specs.declared.findings.FindingRow.{FindingRow}
+
+-- ---- a line that stands out, by value, and made again of it
+record KnownRow : Type 0 where
+  fs : ℕ
+  line : ℕ
+  reasons : List ReasonValue
+  terms : Terms
+  is_for_network : Bool
+  deciding : List ℕ
+  clients : Clients
+  count : ℕ
+  system : List ℕ
+  text : List ℕ
+
+abbrev known_row : FindingRow → KnownRow
+known_row row = record {
+  fs = row.finding.fs.0;
+  line = row.finding.line;
+  reasons = map reason_value row.finding.reasons.now;
+  terms = row.finding.terms.now;
+  is_for_network = row.finding.is_for_network;
+  deciding = row.finding.deciding.now;
+  clients = row.clients.now;
+  count = row.count;
+  system = row.system.now;
+  text = row.text.now;
+}
+
+abbrev reason_of : ReasonValue → Reason
+reason_of (GrantsMore found) = ServerGrantsMore (record { line = found.line; address = found.address; other = found.other; directory = option_map lend found.directory })
+reason_of (Another reason) = reason
+
+abbrev row_again : KnownRow → FindingRow
+row_again known = record {
+  finding = record {
+    fs = record { 0 = known.fs };
+    line = known.line;
+    reasons = lend (map reason_of known.reasons);
+    terms = lend known.terms;
+    is_for_network = known.is_for_network;
+    deciding = lend known.deciding;
+  };
+  clients = lend known.clients;
+  system = lend known.system;
+  text = lend known.text;
+  count = known.count;
+}
+
+abbrev fresh : FindingRow → FindingRow
+fresh row = row_again (known_row row)
+
+-- ---- why it stands out
+
+wider_is : (fs line : ℕ) (address : Addr) (other : ℕ) (directory : Option (Bor (List (List ℕ))))
+    → wider fs (record { line = line; address = address; other = other; directory = directory })
+    ≡ wider fs (record { line = line; address = address; other = other; directory = option_map lend (option_copied directory) })
+wider_is fs line address other None = refl
+wider_is fs line address other (Some directory) = refl
+
+reason_is : (row : FindingRow) (reason : Reason) → reason_items row.finding reason ≡ reason_items (fresh row).finding (reason_of (reason_value reason))
+reason_is row NoClient = refl
+reason_is row NeverDecides = refl
+reason_is row ForEverybodyReadOnly = refl
+reason_is row ForEverybodyReadWrite = refl
+reason_is row Wide = refl
+reason_is row RootKeptForNetworks = refl
+reason_is row RootKeptForNames = refl
+reason_is row (ServerGrantsMore found) = wider_is row.finding.fs.0 found.line found.address found.other found.directory
+reason_is row (RepeatedClient found) = refl
+
+-- what is said of values, with a part between each two, is said of others of which the same is said
+module _ {X : Type 0} (parts others_parts : X → List (Item (List ℕ))) (between : Item (List ℕ)) (f : X → X) (same : (x : X) → parts x ≡ others_parts (f x)) where
+  joined_behind : (xs : List X) → flat_map (λ x. between ∷ parts x) xs ≡ flat_map (λ x. between ∷ others_parts x) (map f xs)
+  joined_behind [] = refl
+  joined_behind (x ∷ xs) = λ i. (between ∷ same x i) ++ joined_behind xs i
+
+  joined_is : (xs : List X) → joined parts between xs ≡ joined others_parts between (map f xs)
+  joined_is [] = refl
+  joined_is (x ∷ xs) = λ i. same x i ++ joined_behind xs i
+
+abbrev reasons_again : List Reason → List Reason
+reasons_again reasons = map (λ reason. reason_of (reason_value reason)) reasons
+
+items_is : (row : FindingRow) → finding_items row.finding ≡ finding_items (fresh row).finding
+items_is row =
+    joined_is (reason_items row.finding) (reason_items (fresh row).finding) comma (λ reason. reason_of (reason_value reason)) (reason_is row) row.finding.reasons.now
+    ∙ ap (reasons_items (fresh row).finding) (sym (map_twice reason_value reason_of row.finding.reasons.now))
+
+level_same : (reason : Reason) → is_first reason ≡ is_first (reason_of (reason_value reason))
+level_same NoClient = refl
+level_same NeverDecides = refl
+level_same ForEverybodyReadOnly = refl
+level_same ForEverybodyReadWrite = refl
+level_same Wide = refl
+level_same RootKeptForNetworks = refl
+level_same RootKeptForNames = refl
+level_same (ServerGrantsMore found) = refl
+level_same (RepeatedClient found) = refl
+
+any_same : (reasons : List Reason) → list_any is_first reasons ≡ list_any is_first (map reason_of (map reason_value reasons))
+any_same [] = refl
+any_same (reason ∷ reasons) = λ i. level_same reason i || any_same reasons i
+
+level_is : (row : FindingRow) → level_of_all row.finding.reasons.now ≡ level_of_all (fresh row).finding.reasons.now
+level_is row = λ i. if any_same row.finding.reasons.now i then LookFirst else Check
+
+first_is : is_first_row ≡ (λ (row : FindingRow). is_first_row (fresh row))
+first_is = λ i row. is_first_level (level_is row i)
+
+-- ---- lines that are told alike
+
+told_for : (row : FindingRow) (clients : Clients) → told_of row clients ≡ told_of (fresh row) clients
+told_for row (Hosts names) =
+    ap (λ some. some ++ Own Break ∷ Own (TermsOf row.finding.terms.now) ∷ Own Break ∷ Own (Number row.count) ∷ Own Break ∷ map items.Code names) (items_is row)
+told_for row (Net net noted) = refl
+told_for row (Net6 value) = refl
+told_for row World = refl
+
+told_is : (row : FindingRow) → told row ≡ told (fresh row)
+told_is row = ap items_html (told_for row row.clients.now)
+
+alike_is : (row other : FindingRow) → are_told_alike row other ≡ are_told_alike (fresh row) (fresh other)
+alike_is row other = λ i. bytes_eq (told_is row i) (told_is other i)
+
+first_again : (lines : List FindingRow) (first : FindingRow) → slice_get lines 0 ≡ Some first → slice_get (map fresh lines) 0 ≡ Some (fresh first)
+first_again [] first is = ap (option_map fresh) is
+first_again (line ∷ lines) first is = ap (option_map fresh) is
+
+grouped_again : (lines : List FindingRow) (rows : List (List FindingRow)) → AreGrouped are_told_alike lines rows → AreGrouped are_told_alike (map fresh lines) (map (map fresh) rows)
+grouped_again lines [] are = ap (map fresh) are
+grouped_again lines ([] ∷ rows) are = are
+grouped_again lines ((first ∷ others) ∷ rows) are =
+    let test : are_told_alike first ≡ (λ (line : FindingRow). are_told_alike (fresh first) (fresh line)) = λ i line. alike_is first line i in
+    let kept = ap (map fresh) are.1 ∙ ap (λ t. map fresh (filter t lines)) test ∙ filter_mapped fresh (are_told_alike (fresh first)) lines in
+    let left = ap (λ (t : FindingRow → Bool). map fresh (filter (λ line. not (t line)) lines)) test ∙ filter_mapped fresh (λ line. not (are_told_alike (fresh first) line)) lines in (
+      first_again lines first are.0,
+      kept,
+      subst (λ (some : List FindingRow). AreGrouped are_told_alike some (map (map fresh) rows)) left
+          (grouped_again (filter (λ line. not (are_told_alike first line)) lines) rows are.2),
+    )
+
+module _ {A : Type 0} (alike : A → A → Bool) where
+  none_first : (values : List A) (first : A) → values ≡ [] → slice_get values 0 ≡ Some first → ⊥
+  none_first [] first none is = absurd (true≢false (ap is_none is))
+  none_first (value ∷ values) first none is = absurd (let long = ap length none in omega arith)
+
+  one_grouping : (values : List A) (groups others : List (List A)) → AreGrouped alike values groups → AreGrouped alike values others → groups ≡ others
+  one_grouping values [] [] are its = refl
+  one_grouping values [] ([] ∷ others) are its = absurd its
+  one_grouping values [] ((first ∷ rest) ∷ others) are its = absurd (none_first values first are its.0)
+  one_grouping values ([] ∷ groups) others are its = absurd are
+  one_grouping values ((first ∷ rest) ∷ groups) [] are its = absurd (none_first values first its are.0)
+  one_grouping values ((first ∷ rest) ∷ groups) ([] ∷ others) are its = absurd its
+  one_grouping values ((first ∷ rest) ∷ groups) ((first' ∷ rest') ∷ others) are its =
+      let same : first ≡ first' = ap (λ (o : Option A). unwrap_or o first) (sym are.0 ∙ its.0) in
+      let own : first ∷ rest ≡ first' ∷ rest' = are.1 ∙ ap (λ (x : A). filter (alike x) values) same ∙ sym its.1 in
+      let left = subst (λ (x : A). AreGrouped alike (filter (λ value. not (alike x value)) values) others) (sym same) its.2 in
+      ap (λ group. group ∷ groups) own ∙ ap (λ some. (first' ∷ rest') ∷ some) (one_grouping (filter (λ value. not (alike first value)) values) groups others are.2 left)
+
+-- ---- the text
+
+places_is : (lines : List FindingRow) → places lines ≡ places (map fresh lines)
+places_is lines =
+    let some = joined_is place place (Own Break) fresh (λ line. refl) (take 4 lines) ∙ ap (joined place (Own Break)) (sym (take-map fresh 4 lines)) in
+    let more = sym (length-map (drop 4 lines) fresh) ∙ ap length (sym (drop-map fresh 4 lines)) in
+    λ i. some i ++ Own (AndMore (more i)) ∷ []
+
+lines_is : (frame : Frame) (lines : List FindingRow) → lines_html frame lines ≡ lines_html frame (map fresh lines)
+lines_is frame [] = refl
+lines_is frame (first ∷ others) =
+    let lines = first ∷ others in
+    let why = ap (λ (words : List (Item (List ℕ))). words ++ of_findings.shared (length lines) ++ Own Break ∷ Line first.text.now ∷ []) (items_is first)
+    ∙ ap (λ count. what (fresh first) count) (sym (length-map lines fresh)) in
+    λ i. row_html frame ((level_item (level_is first i) ∷ []) ∷ places_is lines i ∷ why i ∷ (Own (PartOf first.count 4294967296) ∷ []) ∷ [])
+
+abbrev again : List (List FindingRow) → List (List FindingRow)
+again rows = map (map fresh) rows
+
+all_lines : (frame : Frame) (rows : List (List FindingRow)) → flat_map (lines_html frame) rows ≡ flat_map (lines_html frame) (again rows)
+all_lines frame [] = refl
+all_lines frame (lines ∷ rows) = λ i. lines_is frame lines i ++ all_lines frame rows i
+
+table_is : (frame : Frame) (title : List ℕ) (rows : List (List FindingRow)) → table frame title rows ≡ table frame title (again rows)
+table_is frame title rows = λ i. table_start frame (Said title ∷ []) ++ all_lines frame rows i ++ tag_html TableEnd
+
+as_many : (rows : List (List FindingRow)) → length rows ≡ length (again rows)
+as_many rows = sym (length-map rows (map fresh))
+
+open_is : (rows : List (List FindingRow)) → open_rows rows ≡ open_rows (again rows)
+open_is rows = table_is findings_frame (codes "Lines that stand out") rows
+
+folded_is : (rows : List (List FindingRow)) → folded_rows rows ≡ folded_rows (again rows)
+folded_is rows = λ i. fold_start (as_many rows i) ++ table_is more_frame (codes "More lines that stand out") rows i ++ tag_html FoldEnd
+
+both_are : (rows : List (List FindingRow)) → open_and_folded rows ≡ open_and_folded (again rows)
+both_are rows =
+    let first = open_is (take 24 rows) ∙ ap open_rows (sym (take-map (map fresh) 24 rows)) in
+    let others = folded_is (drop 24 rows) ∙ ap folded_rows (sym (drop-map (map fresh) 24 rows)) in
+    λ i. if nat_le (as_many rows i) 24 then open_is rows i else first i ++ others i
+
+rows_are : (rows : List (List FindingRow)) → findings rows ≡ findings (again rows)
+rows_are rows = λ i. if as_many rows i == 0 then no_finding else both_are rows i
+
+counted_is : (lines : List FindingRow) → counted_findings lines ≡ counted_findings (map fresh lines)
+counted_is lines =
+    let first = ap (λ test. count_by test lines) first_is ∙ count_mapped fresh is_first_row lines in
+    let all = sym (length-map lines fresh) in
+    λ i. counts (first i) (all i - first i)
+
+-- ---- of lines of a site
+
+abbrev known_of : RowValue → KnownRow
+known_of value = record {
+  fs = value.told.fs;
+  line = value.told.line;
+  reasons = map reason_value value.told.reasons;
+  terms = value.told.terms;
+  is_for_network = value.told.is_for_network;
+  deciding = value.told.deciding;
+  clients = value.told.clients;
+  count = value.told.count;
+  system = value.system;
+  text = value.text;
+}
+
+module _ (table_of : List Mount) (texts : List (List (List ℕ))) (decided : List (List DecidedFor)) where
+  abbrev row_by : KnownLine → KnownRow
+  row_by line = record {
+    fs = line.fs;
+    line = line.row.entry.line;
+    reasons = line.reasons;
+    terms = line.row.entry.terms;
+    is_for_network = is_for_network line.row.entry.clients;
+    deciding = deciding_for decided line.fs line.row.entry.line;
+    clients = line.row.entry.clients;
+    count = line.count;
+    system = name_of table_of line.fs;
+    text = line_in texts line.fs line.row.entry.line;
+  }
+
+  rows_by : (rows : List FindingRow) (found : List LineValue) → map row_value rows ≡ map (row_of table_of texts) (findings_among decided found)
+      → map known_row rows ≡ map row_by (filter stands_by (map known_line found))
+  rows_by rows found told =
+      sym (map_twice row_value known_of rows) ∙ ap (map known_of) told
+      ∙ map_twice (row_of table_of texts) known_of (findings_among decided found)
+      ∙ map_twice (finding_of decided) (λ value. known_of (row_of table_of texts value)) (filter stands_out found)
+      ∙ sym (map_twice known_line row_by (filter stands_out found)) ∙ ap (map row_by) (known_standing found)
+
+pub one_text_of_findings : LinesAreToldInOneWay → (content : Content) (table : List Mount) (heads : List Head) (decided : List (List DecidedFor)) (lines others : List LineValue)
+    (findings other : FindingTable) → IsSoundSite content → AreLinesOfSite content lines → AreLinesOfSite content others
+    → AreFindingRows table heads decided lines findings → AreFindingRows table heads decided others other → findings_text findings ≡ findings_text other
+one_text_of_findings law content mounts heads decided lines others findings other sound lines_are others_are are its =
+    let texts = map (text_in_force heads) mounts in
+    let alike = law.findings content lines others are.found its.found sound lines_are others_are are.are its.are in
+    let known = rows_by mounts texts decided findings.lines are.found are.told
+    ∙ ap (λ (some : List KnownLine). map (row_by mounts texts decided) (filter stands_by some)) alike
+    ∙ sym (rows_by mounts texts decided other.lines its.found its.told) in
+    let same : map fresh findings.lines ≡ map fresh other.lines =
+    sym (map_twice known_row row_again findings.lines) ∙ ap (map row_again) known ∙ map_twice known_row row_again other.lines in
+    let groups = one_grouping are_told_alike (map fresh findings.lines) (again findings.rows) (again other.rows) (grouped_again findings.lines findings.rows are.shared)
+    (subst (λ (some : List FindingRow). AreGrouped are_told_alike some (again other.rows)) (sym same) (grouped_again other.lines other.rows its.shared)) in
+    let counted = counted_is findings.lines ∙ ap counted_findings same ∙ sym (counted_is other.lines) in
+    let rows = rows_are findings.rows ∙ ap of_findings.findings groups ∙ sym (rows_are other.rows) in
+    λ i. counted i ++ rows i
