@@ -1,5 +1,5 @@
 -- The table of the lines that stand out is made of blocks.
-use Rattle.std.proofs.Common.{◌≡◌, ℕ, ◌-◌, ◌==◌, List, [], ◌∷◌, ◌++◌, codes, drop, length, refl, take}
+use Rattle.std.proofs.Common.{ℕ, ◌-◌, ◌==◌, List, [], ◌∷◌, codes, drop, length, refl, take}
 use Rattle.std.specs.Prelude.{count_by, nat_le}
 use Rattle.page_data.specs.Reasons.{level_of_all}
 use Rattle.page_html.specs.Items.{AndMore, Break, Line, Link, Number, Own, Plural, Words}

@@ -1,5 +1,5 @@
 -- The lists of warnings, names and files are made of blocks.
-use Rattle.std.proofs.Common.{◌≡◌, ℕ, ◌==◌, List, [], ◌∷◌, ◌++◌, Bool, true, false, Option, Some, None, arith, codes, drop, length, map, refl, take}
+use Rattle.std.proofs.Common.{ℕ, ◌==◌, List, [], ◌∷◌, ◌++◌, Bool, true, false, Option, Some, None, arith, codes, drop, length, map, refl, take}
 use Rattle.std.specs.Prelude.{nat_le}
 use Rattle.desk_core.specs.Standing.{Standing}
 use Rattle.desk_core.specs.declared.head.Head.{Head}

@@ -1,5 +1,5 @@
 -- Maps and the table of networks are made of blocks.
-use Rattle.std.proofs.Common.{◌≡◌, ℕ, ◌-◌, ◌==◌, ◌&&◌, ◌||◌, List, [], ◌∷◌, ◌++◌, codes, drop, inl, length, refl, take}
+use Rattle.std.proofs.Common.{ℕ, ◌-◌, ◌==◌, ◌&&◌, ◌||◌, List, [], ◌∷◌, codes, drop, inl, length, refl, take}
 use Rattle.desk_policy.specs.Policy.{Content}
 use Rattle.desk_text.specs.Network.{Block}
 use Rattle.desk_who.specs.Runs.{Run}

@@ -1,5 +1,5 @@
 -- A page is made of blocks.
-use Rattle.std.proofs.Common.{◌≡◌, ℕ, ◌+◌, ◌&&◌, List, [], ◌∷◌, ◌∙◌, Bool, true, false, Result, length, map, subst, sym}
+use Rattle.std.proofs.Common.{ℕ, ◌+◌, ◌&&◌, List, [], ◌∷◌, ◌∙◌, Bool, true, false, Result, length, map, subst, sym}
 use Rattle.std.specs.Prelude.{All}
 use Rattle.std.specs.String.{string_bytes}
 use Rattle.std.proofs.lemmas.List.Elements.{All-head, All-tail}

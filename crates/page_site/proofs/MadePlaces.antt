@@ -1,5 +1,5 @@
 -- What is told of changes, and of groups of directories, is made of blocks.
-use Rattle.std.proofs.Common.{◌≡◌, ℕ, ◌==◌, ◌&&◌, List, [], ◌∷◌, ◌++◌, Bool, Option, Some, None, Result, Ok, Err, codes, drop, length, map, not, refl, take}
+use Rattle.std.proofs.Common.{ℕ, ◌==◌, ◌&&◌, List, [], ◌∷◌, Bool, Option, Some, None, Result, Ok, Err, codes, drop, length, map, not, refl, take}
 use Rattle.std.specs.Prelude.{nat_le, nat_lt}
 use Rattle.std.specs.String.{string_bytes}
 use Rattle.desk_impact.specs.Places.{Directory, Others, Place, place_of}

@@ -1,5 +1,5 @@
 -- The header and the summary are made of blocks.
-use Rattle.std.proofs.Common.{◌≡◌, ℕ, ◌-◌, ◌==◌, List, [], ◌∷◌, ◌++◌, arith, codes, length, refl}
+use Rattle.std.proofs.Common.{ℕ, ◌==◌, List, [], ◌∷◌, arith, codes, length, refl}
 use Rattle.desk_tables.specs.declared.filesystems.Mount.{Mount}
 use Rattle.page_html.specs.Items.{Code, Own, Plural, Words}
 use Rattle.page_html.specs.Titles.{Said}

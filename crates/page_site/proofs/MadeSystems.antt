@@ -1,5 +1,5 @@
 -- The part of the page on a file system is made of blocks.
-use Rattle.std.proofs.Common.{◌≡◌, ℕ, ◌+◌, ◌==◌, ◌^◌, List, [], ◌∷◌, ◌++◌, Bool, true, false, Option, Some, None, codes, length, not, refl}
+use Rattle.std.proofs.Common.{ℕ, ◌+◌, ◌==◌, ◌^◌, List, [], ◌∷◌, Bool, true, false, Option, Some, None, codes, length, not, refl}
 use Rattle.std.specs.Prelude.{nat_le}
 use Rattle.std.specs.Option.{option_copied}
 use Rattle.std.specs.Str.Lines.{lines}

@@ -1,5 +1,5 @@
 -- The parts that tell of classes, and why lines stand out, have no picture.
-use Rattle.std.proofs.Common.{◌≡◌, ℕ, List, [], ◌∷◌, ◌++◌, Option, Some, None, codes, drop, length, refl, take}
+use Rattle.std.proofs.Common.{ℕ, List, [], ◌∷◌, Option, Some, None, codes, drop, length, refl, take}
 use Rattle.std.specs.Option.{option_copied}
 use Rattle.desk_exports.specs.declared.entry.Flavour.{Flavour}
 use Rattle.desk_exports.specs.declared.entry.Terms.{Terms}
