@@ -8,7 +8,7 @@ use Rattle.page_html.specs.Titles.{Said}
 use Rattle.page_html.specs.declared.blocks.Element.TheVariants.{Fold, Paragraph}
 use Rattle.page_html.specs.declared.blocks.Tag.TheVariants.{FoldEnd, TableEnd}
 use Rattle.page_summary.specs.FindingRows.{FindingTable, findings_text}
-use Rattle.page_summary.specs.Findings.{cells, counts, findings_frame, fold_start, folded_rows, is_first_row, lines_html, more_frame, no_finding, open_and_folded, open_rows, place, places, shared, table, what}
+use Rattle.page_summary.specs.Findings.{cells, counts, findings_frame, fold_start, folded_rows, is_first_row, lines_html, more_frame, no_finding, open_and_folded, open_rows, place, places, shared, shared_by, table, what}
 use Rattle.page_summary.specs.declared.findings.FindingRow.{FindingRow}
 use Rattle.page_site.specs.MadeOfBlocks.{IsMadeOfBlocks}
 use Rattle.page_site.proofs.Made.{append_made, each_made, element_made, if_made, nothing_made, row_made, start_made, tag_made}
@@ -29,9 +29,7 @@ places_plain lines =
     plain_append (plain_joined place (Own Break) (record { is = refl }) (λ line. record { are = refl }) (take 4 lines)) more
 
 shared_plain : (count : ℕ) → ArePlain (shared count)
-shared_plain count =
-    either_plain (count == 1) (parts [] refl)
-    (parts (Own Break ∷ Own (Number count) ∷ Own (Words (codes " lines for the same names, the first of them:")) ∷ []) refl)
+shared_plain count = either_plain (count == 1) (parts [] refl) (parts (shared_by count) refl)
 
 what_plain : (first : FindingRow) (count : ℕ) → ArePlain (what first count)
 what_plain first count =

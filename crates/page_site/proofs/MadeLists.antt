@@ -1,7 +1,6 @@
 -- The lists of warnings, names and files are made of blocks.
 use Rattle.std.proofs.Common.{ℕ, ◌==◌, List, [], ◌∷◌, ◌++◌, Bool, true, false, Option, Some, None, arith, codes, drop, length, map, refl, take}
 use Rattle.std.specs.Prelude.{nat_le}
-use Rattle.std.specs.Option.{option_copied}
 use Rattle.desk_core.specs.Standing.{Standing}
 use Rattle.desk_core.specs.declared.head.Head.{Head}
 use Rattle.desk_exports.specs.Profile.{profile_number}
@@ -10,7 +9,7 @@ use Rattle.desk_policy.specs.SiteFile.{is_of_seven}
 use Rattle.desk_policy.specs.declared.parsing.SiteTables.{SiteTables}
 use Rattle.desk_tables.specs.declared.filesystems.FsId.{FsId}
 use Rattle.desk_tables.specs.declared.filesystems.Mount.{Mount}
-use Rattle.page_html.specs.Items.{AndMore, Digest, Digits, Item, NewLine, Number, Own, Plural, Ranges, Strong, Text, Word, Words, Zero}
+use Rattle.page_html.specs.Items.{AndMore, Digits, Item, NewLine, Number, Own, Plural, Ranges, Strong, Text, Word, Words, Zero}
 use Rattle.page_html.specs.Tables.{Frame, rows_html, table_start}
 use Rattle.page_html.specs.Titles.{Said, Title}
 use Rattle.page_html.specs.Blocks.{tag_html}
@@ -38,6 +37,7 @@ use Rattle.page_lists.specs.declared.hosts.HostRow.{HostRow}
 use Rattle.page_lists.specs.declared.mentions.Mention.{Mention}
 use Rattle.page_lists.specs.declared.mentions.Mention.TheVariants.{Group, Host, Line, System}
 use Rattle.page_lists.specs.declared.netgroups.NetgroupRow.{NetgroupRow}
+use Rattle.page_lists.specs.declared.uses.NameFacts.{NameFacts}
 use Rattle.page_lists.specs.declared.warnings.WarningRow.{WarningRow}
 use Rattle.page_site.specs.MadeOfBlocks.{IsMadeOfBlocks}
 use Rattle.page_site.proofs.Made.{IsMadeIf, append_made, element_made, fixed_made, if_made, nothing_made, rows_made, same_made, start_made, tag_made}
@@ -68,6 +68,15 @@ stands_for_plain ranges = plain_if (length ranges == 0) (part (Own (Strong (code
 written_by_plain : (uses : List Mention) → ArePlain (written_by uses)
 written_by_plain uses = some_or_plain 6 (Own (Zero (codes "no line"))) (record { is = refl }) uses
 
+-- what is told of a name, in its last cells
+abbrev told_of : NameFacts → List (List (Item (List ℕ)))
+told_of facts = (Own (Number facts.addresses) ∷ []) ∷ (stands_for facts.ranges.items ∷ []) ∷ written_by facts.uses.items ∷ []
+
+facts_plain : (facts : NameFacts) → ArePlainCells (told_of facts)
+facts_plain facts =
+    let last = cells_cons (plain_cons (stands_for_plain facts.ranges.items) (parts [] refl)) (cells_cons (written_by_plain facts.uses.items) (some_cells [] refl)) in
+    record { are = last.are }
+
 -- ---- long tables
 long_start_made : (most count : ℕ) (one more : List ℕ) → IsMadeOfBlocks (long_start most count one more)
 long_start_made most count one more = if_made (nat_le count most) nothing_made (element_made Fold (Own (Plural count one more) ∷ []) (record { are = refl }))
@@ -82,11 +91,11 @@ long_made most one more frame title cells plain xs =
     (long_start_made most (length xs) one more) (start_made frame title)) (rows_made frame cells plain xs)) (tag_made TableEnd)) (long_end_made most (length xs))
 
 -- ---- files
-approver_plain : (name : Option (List ℕ)) → IsPlain (files.approver name)
+approver_plain : (name : Option (List ℕ)) → IsPlain (files.name_or_dash name)
 approver_plain None = record { is = refl }
 approver_plain (Some name) = record { is = refl }
 
-profile_plain : (head : Head) → IsPlain (files.profile head)
+profile_plain : (head : Head) → IsPlain (files.profile (Some head))
 profile_plain head = plain_if (is_of_seven head.file) (part files.dash refl) (part (Own (Digits (profile_number head.profile))) refl)
 
 remark_plain : (proposer : Option (List ℕ)) (is_unlisted : Bool) → ArePlain (files.remark proposer is_unlisted)
@@ -95,19 +104,23 @@ remark_plain None false = record { are = refl }
 remark_plain (Some name) true = record { are = refl }
 remark_plain (Some name) false = record { are = refl }
 
-file_plain : (row : FileRow) (head : Option Head) → ArePlainCells (files.cells_with row head)
-file_plain row None = record { are = (cells_cons (remark_plain (option_copied row.proposer) row.is_unlisted) (some_cells [] refl)).are }
-file_plain row (Some head) =
-    let last = cells_cons (remark_plain (option_copied row.proposer) row.is_unlisted) (some_cells [] refl) in
-    let behind : ArePlainCells ((files.profile head ∷ []) ∷ (files.size head ∷ []) ∷ (Digest row.digest.now ∷ []) ∷ files.remark (option_copied row.proposer) row.is_unlisted ∷ []) =
-    cells_cons (plain_cons (profile_plain head) (parts [] refl)) (record { are = last.are })
-    in
-    record { are = (cells_cons (plain_cons (approver_plain head.approver) (parts [] refl)) behind).are }
+revision_plain : (head : Option Head) (digest : List ℕ) (behind : List (List (Item (List ℕ)))) → ArePlainCells behind
+    → ArePlainCells ((files.revision head ∷ []) ∷ (files.author head ∷ []) ∷ (files.approver head ∷ []) ∷ (files.profile head ∷ []) ∷ (files.size head ∷ [])
+    ∷ (files.digest head digest ∷ []) ∷ behind)
+revision_plain None digest behind plain = record { are = plain.are }
+revision_plain (Some head) digest behind plain =
+    let last : ArePlainCells ((files.size (Some head) ∷ []) ∷ (files.digest (Some head) digest ∷ []) ∷ behind) = record { are = plain.are } in
+    record { are = (cells_cons (plain_cons (approver_plain head.approver) (parts [] refl)) (cells_cons (plain_cons (profile_plain head) (parts [] refl)) last)).are }
+
+file_plain : (row : files.RowValue) → ArePlainCells (files.cells row)
+file_plain row =
+    let remark : ArePlainCells (files.remark row.proposer row.is_unlisted ∷ []) = cells_cons (remark_plain row.proposer row.is_unlisted) (some_cells [] refl) in
+    record { are = (revision_plain row.head row.digest (files.remark row.proposer row.is_unlisted ∷ []) remark).are }
 
 files_made : (rows : List FileRow) → IsMadeOfBlocks (files.files rows)
 files_made rows =
-    long_made 40 (codes "file") (codes "files") files.frame (Said (codes "Files and their newest revisions") ∷ []) files.cells
-    (λ row. file_plain row (option_copied row.head)) rows
+    long_made 40 (codes "file") (codes "files") files.frame (Said (codes "Files and their newest revisions") ∷ [])
+    (λ row. files.cells (files.row_value row)) (λ row. file_plain (files.row_value row)) rows
 
 pub adds_files_made : (table : List Mount) (standing : Standing) → IsMadeIf (AddsFiles table standing [])
 adds_files_made table standing text adds = same_made adds.added (files_made adds.rows)
@@ -120,9 +133,8 @@ kind_plain Unknown = record { is = refl }
 
 host_plain : (row : HostRow) → ArePlainCells (hosts.host row)
 host_plain row =
-    let facts = cells_cons (plain_cons (stands_for_plain row.ranges.now) (parts [] refl)) (cells_cons (written_by_plain row.uses.now) (some_cells [] refl)) in
-    let behind : ArePlainCells ((Own (Number row.addresses) ∷ []) ∷ (stands_for row.ranges.now ∷ []) ∷ written_by row.uses.now ∷ []) = record { are = facts.are } in
-    record { are = (cells_cons (plain_cons (kind_plain row.kind) (parts [] refl)) behind).are }
+    let kind = plain_cons (kind_plain (hosts.row_value row).kind) (parts [] refl) in
+    record { are = (cells_cons kind (facts_plain row.facts)).are }
 
 hosts_made : (rows : List HostRow) → IsMadeOfBlocks (hosts.hosts rows)
 hosts_made rows =
@@ -135,11 +147,8 @@ adds_hosts_made content tables text adds = same_made adds.added (hosts_made adds
 -- ---- netgroups
 netgroup_plain : (row : NetgroupRow) → ArePlainCells (netgroups.netgroup row)
 netgroup_plain row =
-    let facts = cells_cons (plain_cons (stands_for_plain row.ranges.now) (parts [] refl)) (cells_cons (written_by_plain row.uses.now) (some_cells [] refl)) in
-    let members : ArePlain (netgroups.members_of row.members.now) = some_or_plain 8 (Own (Words (codes "-"))) (record { is = refl }) row.members.now in
-    let behind : ArePlainCells ((Own (Number row.hosts) ∷ []) ∷ (Own (Number row.addresses) ∷ []) ∷ (stands_for row.ranges.now ∷ []) ∷ written_by row.uses.now ∷ []) =
-    record { are = facts.are }
-    in
+    let members : ArePlain (netgroups.members_of row.members.items) = some_or_plain 8 (Own (Words (codes "-"))) (record { is = refl }) row.members.items in
+    let behind : ArePlainCells ((Own (Number row.hosts) ∷ []) ∷ told_of row.facts) = record { are = (facts_plain row.facts).are } in
     record { are = (cells_cons members behind).are }
 
 netgroups_made : (rows : List NetgroupRow) → IsMadeOfBlocks (netgroups.netgroups rows)
