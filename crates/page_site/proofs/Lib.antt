@@ -1,3 +1,4 @@
+mod AnyOrder
 mod Finding
 mod Made
 mod MadeFindings
@@ -16,6 +17,8 @@ mod PlainFindings
 mod Sites
 mod Waits
 mod Widening
+pub mod OneStanding
+pub mod OneWaiting
 mod UniqueFound
 mod UniquePage
 mod UniqueSystems

@@ -8,9 +8,9 @@ use Rattle.desk_policy.specs.Site.{SiteTexts}
 use Rattle.desk_policy.specs.declared.parsing.SiteTables.{SiteTables}
 use Rattle.desk_policy.specs.declared.site_fault.SiteFault.{SiteFault}
 use Rattle.desk_impact.specs.Sections.{PlaceFound}
-use Rattle.desk_core.specs.Head.{newest_in}
+use Rattle.desk_core.specs.Head.{Newest, StandOnce, newest_in}
 use Rattle.desk_core.specs.Site.{site_in}
-use Rattle.desk_core.specs.Standing.{Standing, standing_in}
+use Rattle.desk_core.specs.Standing.{PendOnce, Standing, proposals_in, standing_in}
 use Rattle.desk_core.specs.declared.head.Head.{Head}
 use Rattle.desk_core.specs.declared.proposal.Proposal.{Proposal}
 use Rattle.page_data.specs.Laws.{IsSoundIfRead, IsSoundSite}
@@ -47,12 +47,15 @@ use Rattle.page_summary.specs.declared.header.Header.{Header}
 use Rattle.page_summary.specs.declared.sections.Section.{Section}
 use Rattle.page_summary.specs.declared.sections.Section.TheVariants.{Each, Files, Names, Networks, Systems, Warnings}
 use Rattle.page_site.specs.FoundInSite.{AreSmallMaps, Found, IsFound, Source}
-use Rattle.page_site.specs.Page.{AreFiles, AreLists, AreNames, AreTables, InSection, IsBack, IsBeginning, IsFront, IsHeader, IsPage, IsPageOf, IsSummary, parts_of}
+use Rattle.page_site.specs.Page.{AreFiles, AreLists, AreNames, AreTables, InSection, IsBack, IsBeginning, IsFront, IsHeader, IsPage, IsPageOf, IsSource, IsSummary, parts_of}
 use Rattle.page_site.specs.Pieces.{Just, Then, Told}
-use Rattle.page_site.specs.SystemParts.{AreSystemTexts}
+use Rattle.page_site.specs.SystemParts.{AreSystemTexts, waiting_for}
 use Rattle.page_site.specs.UniqueLaws.{PagesAreToldInOneWay, SystemsAreToldInOneWay}
 use Rattle.page_site.specs.WaitingProposals.{AreWaiting, Waiting}
 use Rattle.page_site.specs.WideningProposals.{AreWidening}
+use Rattle.page_site.proofs.AnyOrder.{page_moved, widening_moved}
+use Rattle.page_site.proofs.OneStanding.{as_many_heads, as_many_proposals, same_revisions, same_waits}
+use Rattle.page_site.proofs.OneWaiting.{waits_alike}
 
 -- ---- texts one behind the other
 abbrev AreOne : (List ℕ → Type 0) → (List ℕ → Type 0) → Type 0
@@ -231,80 +234,93 @@ module _ (lists : ListsAreToldInOneWay) (summary : SummaryIsToldInOneWay) (lines
         (one_back source.content source.tables standing word))
 
   -- ---- what two pages of one state are made of
-  module _ (found_once : WhatIsFoundIsUnique) (few_flavours : ReadLinesHaveFewFlavours) (policy : Content) (sound_if_read : IsSoundIfRead policy)
-      (heads : List Head) (proposals : List Proposal) (read : read_site (site_in (newest_in heads)) ≡ Ok policy) (word page other : List ℕ)
-      (is : IsPageOf heads proposals word page) (its : IsPageOf heads proposals word other) where
-    abbrev texts_of : List Head → SiteTexts
-    texts_of some = site_in (newest_in some)
-
-    content_is : (source : Source) → source.heads ≡ heads → read_site (texts_of source.heads) ≡ Ok source.content → source.content ≡ policy
-    content_is source same policy_is =
-        let both : ◌≡◌ {A = Result Content SiteFault} (Ok source.content) (Ok policy) = sym policy_is ∙ ap (λ some. read_site (texts_of some)) same ∙ read in cc
-
-    same_heads : is.source.heads ≡ its.source.heads
-    same_heads = is.heads_are ∙ sym its.heads_are
-
-    same_proposals : is.source.proposals ≡ its.source.proposals
-    same_proposals = is.proposals_are ∙ sym its.proposals_are
-
-    same_content : is.source.content ≡ its.source.content
+  module _ (found_once : WhatIsFoundIsUnique) (few_flavours : ReadLinesHaveFewFlavours) (a b : Source) (is_a : IsSource a) (is_b : IsSource b)
+      (newest : newest_in a.heads ≡ newest_in b.heads) (pending : proposals_in a.proposals ≡ proposals_in b.proposals) (once_a : StandOnce a.heads)
+      (once_b : StandOnce b.heads) (pend_a : PendOnce a.proposals) (pend_b : PendOnce b.proposals) (sound : IsSoundSite a.content) where
+    same_content : a.content ≡ b.content
     same_content =
-        content_is is.source is.heads_are is.is_source.policy_is ∙ sym (content_is its.source its.heads_are its.is_source.policy_is)
-
-    same_tables : is.source.tables ≡ its.source.tables
-    same_tables =
-        let both : ◌≡◌ {A = Result SiteTables SiteFault} (Ok is.source.tables) (Ok its.source.tables) =
-        sym is.is_source.tables_are ∙ ap (λ some. read_site_tables (texts_of some)) same_heads ∙ its.is_source.tables_are in
+        let both : ◌≡◌ {A = Result Content SiteFault} (Ok a.content) (Ok b.content) =
+            sym is_a.policy_is ∙ ap (λ (some : Newest). read_site (site_in some)) newest ∙ is_b.policy_is in
         cc
 
-    same_waiting : is.source.waiting ≡ its.source.waiting
-    same_waiting =
-        parts.waiting (newest_in its.source.heads) its.source.content its.source.proposals is.source.waiting its.source.waiting its.is_source.policy_is
-        (subst (λ some. AreWaiting (newest_in some) its.source.content its.source.proposals is.source.waiting) same_heads
-        (subst (λ content. AreWaiting (newest_in is.source.heads) content its.source.proposals is.source.waiting) same_content
-        (subst (λ some. AreWaiting (newest_in is.source.heads) is.source.content some is.source.waiting) same_proposals is.is_source.are_waiting)))
-        its.is_source.are_waiting
+    same_tables : a.tables ≡ b.tables
+    same_tables =
+        let both : ◌≡◌ {A = Result SiteTables SiteFault} (Ok a.tables) (Ok b.tables) =
+            sym is_a.tables_are ∙ ap (λ (some : Newest). read_site_tables (site_in some)) newest ∙ is_b.tables_are in
+        cc
 
-    same_openings : is.source.openings ≡ its.source.openings
+    same_openings : a.openings ≡ b.openings
     same_openings =
-        found_once.places.openings its.source.content is.source.openings its.source.openings
-        (subst (λ content. AreOpenings content is.source.openings) same_content is.is_source.are_openings) its.is_source.are_openings
+        found_once.places.openings b.content a.openings b.openings (subst (λ content. AreOpenings content a.openings) same_content is_a.are_openings)
+        is_b.are_openings
 
-    abbrev made : Content → SiteTables → List Head → List Proposal → List Waiting → List (PlaceFound Opening) → Source
-    made content tables some waits waiting openings = record {
+    alike : (fs : ℕ) → waiting_for a.waiting fs ≡ waiting_for b.waiting fs
+    alike =
+        waits_alike (newest_in a.heads) a.content a.proposals b.proposals a.waiting b.waiting is_a.policy_is pending pend_a pend_b is_a.are_waiting
+        (subst (λ some. AreWaiting some a.content b.proposals b.waiting) (sym newest)
+        (subst (λ content. AreWaiting (newest_in b.heads) content b.proposals b.waiting) (sym same_content) is_b.are_waiting))
+
+    abbrev with_parts : Content → SiteTables → List (PlaceFound Opening) → Source
+    with_parts content tables openings = record {
       content = content;
       tables = tables;
-      heads = some;
-      proposals = waits;
-      waiting = waiting;
+      heads = b.heads;
+      proposals = b.proposals;
+      waiting = b.waiting;
       openings = openings;
     }
 
-    same_source : is.source ≡ its.source
-    same_source =
-        ap (λ content. made content is.source.tables is.source.heads is.source.proposals is.source.waiting is.source.openings) same_content
-        ∙ ap (λ tables. made its.source.content tables is.source.heads is.source.proposals is.source.waiting is.source.openings) same_tables
-        ∙ ap (λ some. made its.source.content its.source.tables some is.source.proposals is.source.waiting is.source.openings) same_heads
-        ∙ ap (λ some. made its.source.content its.source.tables its.source.heads some is.source.waiting is.source.openings) same_proposals
-        ∙ ap (λ waiting. made its.source.content its.source.tables its.source.heads its.source.proposals waiting is.source.openings) same_waiting
-        ∙ ap (λ openings. made its.source.content its.source.tables its.source.heads its.source.proposals its.source.waiting openings) same_openings
+    source_moved : b ≡ with_parts a.content a.tables a.openings
+    source_moved =
+        ap (λ content. with_parts content b.tables b.openings) (sym same_content)
+        ∙ ap (λ tables. with_parts a.content tables b.openings) (sym same_tables)
+        ∙ ap (λ openings. with_parts a.content a.tables openings) (sym same_openings)
 
-    sound : IsSoundSite its.source.content
-    sound =
-        let same : its.source.content ≡ policy = content_is its.source its.heads_are its.is_source.policy_is in
-        subst IsSoundSite (sym same) (sound_if_read (texts_of heads) policy read refl refl (subst HasNoContradiction same its.is_source.consistent))
+    pub one_page_of : (word page second : List ℕ) (found other : Found) → IsFound a.content found → IsFound b.content other
+        → AreWidening a.content a.waiting found.widening → AreWidening b.content b.waiting other.widening → IsPage a found word page
+        → IsPage b other word second → page ≡ second
+    one_page_of word page second found other is_found is_other widening widenings is its =
+        let its_found : IsFound a.content other = subst (λ content. IsFound content other) (sym same_content) is_other in
+        one_page a sound (λ some are. few_flavours (site_in (newest_in a.heads)) a.content is_a.policy_is some.lines are) found other is_found its_found widening
+        (widening_moved a.heads b.heads a.proposals b.proposals newest pending (same_revisions a.heads b.heads once_a once_b newest)
+        (as_many_heads a.heads b.heads once_a once_b newest) (as_many_proposals a.proposals b.proposals pend_a pend_b pending)
+        (same_waits a.proposals b.proposals pending) a.content a.tables a.openings a.waiting b.waiting alike other.widening
+        (subst (λ content. AreWidening content b.waiting other.widening) (sym same_content) widenings))
+        (found_once.grants.systems a.content found.systems other.systems is_found.systems its_found.systems) word page second is
+        (page_moved a.heads b.heads a.proposals b.proposals newest pending (same_revisions a.heads b.heads once_a once_b newest)
+        (as_many_heads a.heads b.heads once_a once_b newest) (as_many_proposals a.proposals b.proposals pend_a pend_b pending)
+        (same_waits a.proposals b.proposals pending) a.content a.tables a.openings a.waiting b.waiting alike other word second
+        (subst (λ source. IsPage source other word second) source_moved its))
 
-    pub one_page_of : page ≡ other
-    one_page_of =
-        let source : Source = its.source in
-        let is_found : IsFound source.content is.found = subst (λ (some : Source). IsFound some.content is.found) same_source is.is_found in
-        one_page source sound (λ some are. few_flavours (texts_of source.heads) source.content its.is_source.policy_is some.lines are) is.found its.found is_found
-        its.is_found
-        (subst (λ (some : Source). AreWidening some.content some.waiting is.found.widening) same_source is.widening) its.widening
-        (found_once.grants.systems source.content is.found.systems its.found.systems is_found.systems its.is_found.systems)
-        word page other (subst (λ some. IsPage some is.found word page) same_source is.is) its.is
+module _ (lists : ListsAreToldInOneWay) (summary : SummaryIsToldInOneWay) (lines : LinesAreToldInOneWay) (networks : NetworksAreToldInOneWay)
+    (parts : SystemsAreToldInOneWay) (found : WhatIsFoundIsUnique) (few : ReadLinesHaveFewFlavours) (policy : Content) (sound : IsSoundIfRead policy)
+    (heads others : List Head) (proposals waits : List Proposal) (word page other : List ℕ) (same : standing_in heads proposals ≡ standing_in others waits)
+    (once : StandOnce heads) (once_others : StandOnce others) (pend : PendOnce proposals) (pend_waits : PendOnce waits)
+    (read : read_site (site_in (newest_in heads)) ≡ Ok policy) (is : IsPageOf heads proposals word page) (its : IsPageOf others waits word other) where
+  newest_alike : newest_in is.source.heads ≡ newest_in its.source.heads
+  newest_alike = ap newest_in is.heads_are ∙ ap (λ (some : Standing). some.newest) same ∙ sym (ap newest_in its.heads_are)
+
+  pending_alike : proposals_in is.source.proposals ≡ proposals_in its.source.proposals
+  pending_alike = ap proposals_in is.proposals_are ∙ ap (λ (some : Standing). some.proposals) same ∙ sym (ap proposals_in its.proposals_are)
+
+  content_is : policy ≡ is.source.content
+  content_is =
+      let both : ◌≡◌ {A = Result Content SiteFault} (Ok policy) (Ok is.source.content) =
+          sym read ∙ ap (λ some. read_site (site_in (newest_in some))) (sym is.heads_are) ∙ is.is_source.policy_is in
+      cc
+
+  site_is_sound : IsSoundSite is.source.content
+  site_is_sound =
+      subst IsSoundSite content_is
+      (sound (site_in (newest_in heads)) policy read refl refl (subst HasNoContradiction (sym content_is) is.is_source.consistent))
+
+  pub pages_alike : page ≡ other
+  pages_alike =
+      one_page_of lists summary lines networks parts found few is.source its.source is.is_source its.is_source newest_alike pending_alike
+      (subst StandOnce (sym is.heads_are) once) (subst StandOnce (sym its.heads_are) once_others) (subst PendOnce (sym is.proposals_are) pend)
+      (subst PendOnce (sym its.proposals_are) pend_waits) site_is_sound word page other is.found its.found is.is_found its.is_found is.widening its.widening
+      is.is its.is
 
 pub pages_are_told_in_one_way : ListsAreToldInOneWay → SummaryIsToldInOneWay → LinesAreToldInOneWay → NetworksAreToldInOneWay → SystemsAreToldInOneWay
     → WhatIsFoundIsUnique → ReadLinesHaveFewFlavours → (policy : Content) → IsSoundIfRead policy → PagesAreToldInOneWay policy
-pages_are_told_in_one_way lists summary lines networks parts found few policy sound heads proposals word page other read is its =
-    one_page_of lists summary lines networks parts found few policy sound heads proposals read word page other is its
+pages_are_told_in_one_way = pages_alike

@@ -3,8 +3,9 @@
 use Rattle.std.specs.Prelude.{◌≡◌, ℕ, All, List, Ok}
 use Rattle.desk_policy.specs.Parsing.{read_site}
 use Rattle.desk_policy.specs.Policy.{Content}
-use Rattle.desk_core.specs.Head.{Newest, newest_in}
+use Rattle.desk_core.specs.Head.{Newest, StandOnce, newest_in}
 use Rattle.desk_core.specs.Site.{site_in}
+use Rattle.desk_core.specs.Standing.{PendOnce, standing_in}
 use Rattle.desk_core.specs.declared.head.Head.{Head}
 use Rattle.desk_core.specs.declared.proposal.Proposal.{Proposal}
 use Rattle.page_data.specs.Laws.{IsSoundSite, TellVerdicts}
@@ -44,8 +45,10 @@ pub record SystemsAreToldInOneWay : Type 0 where
       → AreAlike found.lines other.lines → found.decided ≡ other.decided → AreSystemTexts source found fs systems text → AreSystemTexts source other fs systems second
       → text ≡ second
 
--- So the page is: if the newest revisions write this policy, there is at most one page of them, of these proposals and for this word.
+-- So the page is: if the newest revisions write this policy, there is at most one page of how files stand, for this word, in whatever
+-- order newest revisions and proposals are listed.
 abbrev pub PagesAreToldInOneWay : Content → Type 0
 PagesAreToldInOneWay policy =
-    (heads : List Head) (proposals : List Proposal) (word page other : List ℕ) → read_site (site_in (newest_in heads)) ≡ Ok policy
-    → IsPageOf heads proposals word page → IsPageOf heads proposals word other → page ≡ other
+    (heads others : List Head) (proposals waits : List Proposal) (word page other : List ℕ) → standing_in heads proposals ≡ standing_in others waits
+    → StandOnce heads → StandOnce others → PendOnce proposals → PendOnce waits → read_site (site_in (newest_in heads)) ≡ Ok policy
+    → IsPageOf heads proposals word page → IsPageOf others waits word other → page ≡ other
