@@ -9,6 +9,7 @@ mod MadePlaces
 mod MadeSummary
 mod MadeSystems
 pub mod OfSite
+pub mod OneWaiting
 mod Parts
 pub mod Pieces
 mod Plain

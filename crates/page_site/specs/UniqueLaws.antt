@@ -5,6 +5,7 @@ use Rattle.desk_policy.specs.Parsing.{read_site}
 use Rattle.desk_policy.specs.Policy.{Content}
 use Rattle.desk_core.specs.Head.{Newest, newest_in}
 use Rattle.desk_core.specs.Site.{site_in}
+use Rattle.desk_core.specs.Standing.{proposals_in}
 use Rattle.desk_core.specs.declared.head.Head.{Head}
 use Rattle.desk_core.specs.declared.proposal.Proposal.{Proposal}
 use Rattle.page_data.specs.Laws.{IsSoundSite, TellVerdicts}
@@ -17,7 +18,7 @@ use Rattle.page_findings.specs.UniqueLaws.{AreAlike}
 use Rattle.page_summary.specs.Proposals.{ProposalValue}
 use Rattle.page_site.specs.FoundInSite.{AreDecidedOfSite, AreSmallMaps, Found, Source}
 use Rattle.page_site.specs.Page.{IsPageOf}
-use Rattle.page_site.specs.SystemParts.{AreSystemTexts}
+use Rattle.page_site.specs.SystemParts.{AreSystemTexts, waiting_for}
 use Rattle.page_site.specs.WaitingProposals.{AreWaiting, Waiting}
 use Rattle.page_site.specs.WideningProposals.{AreWidening}
 
@@ -43,6 +44,14 @@ pub record SystemsAreToldInOneWay : Type 0 where
   pub texts : (source : Source) (found other : Found) (fs : ℕ) (systems : List SystemValue) (text second : List ℕ) → All HasOneText systems
       → AreAlike found.lines other.lines → found.decided ≡ other.decided → AreSystemTexts source found fs systems text → AreSystemTexts source other fs systems second
       → text ≡ second
+
+-- What waits for a file system goes by how files stand: of a policy that is read, the same waits for it by two lists of proposals, in any
+-- order, that have the same proposal of each file.
+abbrev pub WhatWaitsGoesByTheStanding : Type 0
+WhatWaitsGoesByTheStanding =
+    (newest : Newest) (content : Content) (proposals others : List Proposal) (waiting second : List Waiting) → read_site (site_in newest) ≡ Ok content
+    → proposals_in proposals ≡ proposals_in others → AreWaiting newest content proposals waiting → AreWaiting newest content others second
+    → (fs : ℕ) → waiting_for waiting fs ≡ waiting_for second fs
 
 -- So the page is: if the newest revisions write this policy, there is at most one page of them, of these proposals and for this word.
 abbrev pub PagesAreToldInOneWay : Content → Type 0

@@ -1,7 +1,7 @@
 //! What a page is made of, and that what it tells is told in one way, each law as a function that does nothing.
 
 ghost use Rattle.page_site.specs.MadeOfBlocks.{PrintedPagesAreMadeOfBlocks};
-ghost use Rattle.page_site.specs.UniqueLaws.{PagesAreToldInOneWay, SystemsAreToldInOneWay};
+ghost use Rattle.page_site.specs.UniqueLaws.{PagesAreToldInOneWay, SystemsAreToldInOneWay, WhatWaitsGoesByTheStanding};
 
 use desk_policy::Policy;
 use page_data::{orders_tell_verdicts, sites_are_sound, what_is_found_is_unique};
@@ -28,6 +28,11 @@ pub fn systems_are_told_in_one_way()
     what_is_found_is_unique();
     lines_are_told_in_one_way();
 }
+
+/// What waits for a file system goes by the proposal of each file, not by the order in which proposals are listed.
+pub fn what_waits_goes_by_the_standing()
+    ensures { WhatWaitsGoesByTheStanding }
+{}
 
 /// Two pages of one state and for one word have the same bytes. The policy that the newest revisions write is looked at, as a site's is.
 pub fn pages_are_told_in_one_way(policy: &Policy)
