@@ -10,16 +10,16 @@ mod MadePlaces
 mod MadeSummary
 mod MadeSystems
 pub mod OfSite
+pub mod OneStanding
+pub mod OneWaiting
 mod Parts
 pub mod Pieces
 mod Plain
 mod PlainFindings
 mod Sites
-mod Waits
-mod Widening
-pub mod OneStanding
-pub mod OneWaiting
 mod UniqueFound
 mod UniquePage
 mod UniqueSystems
 mod UniqueWaiting
+mod Waits
+mod Widening

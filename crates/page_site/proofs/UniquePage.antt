@@ -256,7 +256,7 @@ module _ (lists : ListsAreToldInOneWay) (summary : SummaryIsToldInOneWay) (lines
 
     alike : (fs : ℕ) → waiting_for a.waiting fs ≡ waiting_for b.waiting fs
     alike =
-        waits_alike (newest_in a.heads) a.content a.proposals b.proposals a.waiting b.waiting is_a.policy_is pending pend_a pend_b is_a.are_waiting
+        waits_alike (newest_in a.heads) a.content a.proposals b.proposals a.waiting b.waiting is_a.policy_is pending is_a.are_waiting
         (subst (λ some. AreWaiting some a.content b.proposals b.waiting) (sym newest)
         (subst (λ content. AreWaiting (newest_in b.heads) content b.proposals b.waiting) (sym same_content) is_b.are_waiting))
 

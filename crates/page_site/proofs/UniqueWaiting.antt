@@ -39,7 +39,7 @@ many_files texts table site_tables fs (mount ∷ more) files is =
     let are : read.0 ∷ rest.0 ≡ files = cc in
     sym (ap length are) ∙ ap (λ n. suc n) (many_files texts table site_tables (fs + 1) more rest.0 rest.1)
 
-many_rows : (texts : SiteTexts) (content : Content) → read_site texts ≡ Ok content → length content.rows ≡ length content.table
+pub many_rows : (texts : SiteTexts) (content : Content) → read_site texts ≡ Ok content → length content.rows ≡ length content.table
 unfolding read_site
 many_rows texts content is =
     let custodians = was_read (custodians_in texts) (λ rows. then_read (filesystems_in texts rows) (read_after_filesystems texts)) content is in
@@ -55,7 +55,7 @@ some_in : {X : Type 0} → X → Option X → X
 some_in default None = default
 some_in default (Some x) = x
 
-same_some : {X : Type 0} (x y : X) → Some x ≡ Some y → x ≡ y
+pub same_some : {X : Type 0} (x y : X) → Some x ≡ Some y → x ≡ y
 unfolding some_in
 same_some x y is = ap (some_in x) is
 
@@ -129,7 +129,7 @@ module _ (newest : Newest) (content : Content) (each : length content.rows ≡ l
   one_outcome fs proposal (Err fault) (Err other) is its =
       ap (λ (f : SiteFault). Err f) (fault_in_one_way (read_site (site_in (with_text newest proposal.file proposal.body))) fault other is its)
 
-  one_waiting : (one other : Waiting) → one.proposal ≡ other.proposal → IsWaiting newest content one → IsWaiting newest content other → one ≡ other
+  pub one_waiting : (one other : Waiting) → one.proposal ≡ other.proposal → IsWaiting newest content one → IsWaiting newest content other → one ≡ other
   one_waiting one other same is its =
       let fs : one.fs ≡ other.fs = same_some one.fs other.fs (sym is.place ∙ ap (λ (p : Proposal). exports_place content.table p.file) same ∙ its.place) in
       let outcome : one.outcome ≡ other.outcome =
