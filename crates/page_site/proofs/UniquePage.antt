@@ -4,7 +4,6 @@ use Rattle.std.specs.Prelude.{All}
 use Rattle.desk_policy.specs.Contradiction.{HasNoContradiction}
 use Rattle.desk_policy.specs.Parsing.{read_site, read_site_tables}
 use Rattle.desk_policy.specs.Policy.{Content}
-use Rattle.desk_policy.specs.Site.{SiteTexts}
 use Rattle.desk_policy.specs.declared.parsing.SiteTables.{SiteTables}
 use Rattle.desk_policy.specs.declared.site_fault.SiteFault.{SiteFault}
 use Rattle.desk_impact.specs.Sections.{PlaceFound}
@@ -51,7 +50,7 @@ use Rattle.page_site.specs.Page.{AreFiles, AreLists, AreNames, AreTables, InSect
 use Rattle.page_site.specs.Pieces.{Just, Then, Told}
 use Rattle.page_site.specs.SystemParts.{AreSystemTexts, waiting_for}
 use Rattle.page_site.specs.UniqueLaws.{PagesAreToldInOneWay, SystemsAreToldInOneWay}
-use Rattle.page_site.specs.WaitingProposals.{AreWaiting, Waiting}
+use Rattle.page_site.specs.WaitingProposals.{AreWaiting}
 use Rattle.page_site.specs.WideningProposals.{AreWidening}
 use Rattle.page_site.proofs.AnyOrder.{page_moved, widening_moved}
 use Rattle.page_site.proofs.OneStanding.{as_many_heads, as_many_proposals, same_revisions, same_waits}
@@ -240,13 +239,13 @@ module _ (lists : ListsAreToldInOneWay) (summary : SummaryIsToldInOneWay) (lines
     same_content : a.content ≡ b.content
     same_content =
         let both : ◌≡◌ {A = Result Content SiteFault} (Ok a.content) (Ok b.content) =
-            sym is_a.policy_is ∙ ap (λ (some : Newest). read_site (site_in some)) newest ∙ is_b.policy_is in
+        sym is_a.policy_is ∙ ap (λ (some : Newest). read_site (site_in some)) newest ∙ is_b.policy_is in
         cc
 
     same_tables : a.tables ≡ b.tables
     same_tables =
         let both : ◌≡◌ {A = Result SiteTables SiteFault} (Ok a.tables) (Ok b.tables) =
-            sym is_a.tables_are ∙ ap (λ (some : Newest). read_site_tables (site_in some)) newest ∙ is_b.tables_are in
+        sym is_a.tables_are ∙ ap (λ (some : Newest). read_site_tables (site_in some)) newest ∙ is_b.tables_are in
         cc
 
     same_openings : a.openings ≡ b.openings
@@ -306,7 +305,7 @@ module _ (lists : ListsAreToldInOneWay) (summary : SummaryIsToldInOneWay) (lines
   content_is : policy ≡ is.source.content
   content_is =
       let both : ◌≡◌ {A = Result Content SiteFault} (Ok policy) (Ok is.source.content) =
-          sym read ∙ ap (λ some. read_site (site_in (newest_in some))) (sym is.heads_are) ∙ is.is_source.policy_is in
+      sym read ∙ ap (λ some. read_site (site_in (newest_in some))) (sym is.heads_are) ∙ is.is_source.policy_is in
       cc
 
   site_is_sound : IsSoundSite is.source.content

@@ -29,7 +29,8 @@ pub fn systems_are_told_in_one_way()
     lines_are_told_in_one_way();
 }
 
-/// Two pages of one state and for one word have the same bytes. The policy that the newest revisions write is looked at, as a site's is.
+/// Two pages of one state and for one word have the same bytes, in whatever order its newest revisions and proposals are listed. The policy
+/// that the newest revisions write is looked at, as a site's is.
 pub fn pages_are_told_in_one_way(policy: &Policy)
     ensures { PagesAreToldInOneWay policy.now }
 {
