@@ -19,7 +19,7 @@ use Rattle.desk_server.specs.declared.repeated_client.RepeatedClient.{RepeatedCl
 use Rattle.desk_server.specs.declared.wider_grant.WiderGrant.{WiderGrant}
 use Rattle.page_data.specs.declared.lines.LineReasons.{LineReasons}
 use Rattle.page_data.specs.declared.reasons.Reason.{Reason}
-use Rattle.page_data.specs.declared.reasons.Reason.TheVariants as reasons
+use Rattle.page_data.specs.declared.reasons.Reason.TheVariants as reason_of
 use Rattle.page_findings.specs.Deciding.{AreDeciding, DecidedFor, IsDecidedFor, deciding_of, never_decides}
 use Rattle.page_summary.specs.Laws.{NamedLinesDecide}
 
@@ -78,8 +78,8 @@ never_on : (row : Row) (count : ℕ) → never_decides (reasons_on row count) �
 never_on row count = by (are_all row.entry.clients) row.entry.terms.ro (nat_lt narrow count) (keeps_root row.entry.terms) (are_names row.entry.clients)
   where
     by : (all ro wide kept names : Bool)
-        → never_decides (option_to_list (cond all (cond ro (Some reasons.ForEverybodyReadOnly) (Some reasons.ForEverybodyReadWrite)) (cond wide (Some reasons.Wide) None))
-        ++ option_to_list (cond kept (cond names (Some reasons.RootKeptForNames) (Some reasons.RootKeptForNetworks)) None)) ≡ false
+        → never_decides (option_to_list (cond all (cond ro (Some reason_of.ForEverybodyReadOnly) (Some reason_of.ForEverybodyReadWrite)) (cond wide (Some reason_of.Wide) None))
+        ++ option_to_list (cond kept (cond names (Some reason_of.RootKeptForNames) (Some reason_of.RootKeptForNetworks)) None)) ≡ false
     by true true wide kept names = refl
     by true false wide kept names = refl
     by false ro true kept names = refl
@@ -110,7 +110,7 @@ module _ (content : Content) (fs number : ℕ) (reasons : List Reason) (told : I
   nothing named = clash (reasons_on told.row told.count) (told.decides named) (never_on told.row told.count)
 
   somebody : MatchesNobody told.row → ⊥
-  somebody nobody = clash (reasons.NoClient ∷ []) (told.nobody nothing nobody) refl
+  somebody nobody = clash (reason_of.NoClient ∷ []) (told.nobody nothing nobody) refl
 
 pub named_decide : NamedLinesDecide
 named_decide content line reasons found ascending has is are decided is_never =
