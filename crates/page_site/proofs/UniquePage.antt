@@ -1,7 +1,6 @@
 -- The page of a state has one text for a word.
 use Rattle.std.proofs.Common.{◌≡◌, ℕ, ◌++◌, ◌∙◌, List, [], Result, Ok, ap, refl, subst, sym}
 use Rattle.std.specs.Prelude.{All}
-use Rattle.desk_policy.specs.Contradiction.{HasNoContradiction}
 use Rattle.desk_policy.specs.Parsing.{read_site, read_site_tables}
 use Rattle.desk_policy.specs.Policy.{Content}
 use Rattle.desk_policy.specs.declared.parsing.SiteTables.{SiteTables}
@@ -12,7 +11,7 @@ use Rattle.desk_core.specs.Site.{site_in}
 use Rattle.desk_core.specs.Standing.{PendOnce, Standing, proposals_in, standing_in}
 use Rattle.desk_core.specs.declared.head.Head.{Head}
 use Rattle.desk_core.specs.declared.proposal.Proposal.{Proposal}
-use Rattle.page_data.specs.Laws.{IsSoundIfRead, IsSoundSite}
+use Rattle.page_data.specs.Laws.{IsSoundSite}
 use Rattle.page_data.specs.Opening.{AreOpenings}
 use Rattle.page_data.specs.Systems.{SystemValue}
 use Rattle.page_data.specs.Unique.{WhatIsFoundIsUnique}
@@ -46,7 +45,7 @@ use Rattle.page_summary.specs.declared.header.Header.{Header}
 use Rattle.page_summary.specs.declared.sections.Section.{Section}
 use Rattle.page_summary.specs.declared.sections.Section.TheVariants.{Each, Files, Names, Networks, Systems, Warnings}
 use Rattle.page_site.specs.FoundInSite.{AreSmallMaps, Found, IsFound, Source}
-use Rattle.page_site.specs.Page.{AreFiles, AreLists, AreNames, AreTables, InSection, IsBack, IsBeginning, IsFront, IsHeader, IsPage, IsPageOf, IsSource, IsSummary, parts_of}
+use Rattle.page_site.specs.Page.{AreFiles, AreLists, AreNames, AreTables, InSection, IsBack, IsBeginning, IsFront, IsHeader, IsPage, IsSource, IsSummary, parts_of}
 use Rattle.page_site.specs.Pieces.{Just, Then, Told}
 use Rattle.page_site.specs.SystemParts.{AreSystemTexts, waiting_for}
 use Rattle.page_site.specs.UniqueLaws.{PagesAreToldInOneWay, SystemsAreToldInOneWay}
@@ -292,34 +291,14 @@ module _ (lists : ListsAreToldInOneWay) (summary : SummaryIsToldInOneWay) (lines
         (subst (λ source. IsPage source other word second) source_moved its))
 
 module _ (lists : ListsAreToldInOneWay) (summary : SummaryIsToldInOneWay) (lines : LinesAreToldInOneWay) (networks : NetworksAreToldInOneWay)
-    (parts : SystemsAreToldInOneWay) (found : WhatIsFoundIsUnique) (few : ReadLinesHaveFewFlavours) (policy : Content) (sound : IsSoundIfRead policy)
-    (heads others : List Head) (proposals waits : List Proposal) (word page other : List ℕ) (same : standing_in heads proposals ≡ standing_in others waits)
-    (once : StandOnce heads) (once_others : StandOnce others) (pend : PendOnce proposals) (pend_waits : PendOnce waits)
-    (read : read_site (site_in (newest_in heads)) ≡ Ok policy) (is : IsPageOf heads proposals word page) (its : IsPageOf others waits word other) where
-  newest_alike : newest_in is.source.heads ≡ newest_in its.source.heads
-  newest_alike = ap newest_in is.heads_are ∙ ap (λ (some : Standing). some.newest) same ∙ sym (ap newest_in its.heads_are)
-
-  pending_alike : proposals_in is.source.proposals ≡ proposals_in its.source.proposals
-  pending_alike = ap proposals_in is.proposals_are ∙ ap (λ (some : Standing). some.proposals) same ∙ sym (ap proposals_in its.proposals_are)
-
-  content_is : policy ≡ is.source.content
-  content_is =
-      let both : ◌≡◌ {A = Result Content SiteFault} (Ok policy) (Ok is.source.content) =
-      sym read ∙ ap (λ some. read_site (site_in (newest_in some))) (sym is.heads_are) ∙ is.is_source.policy_is in
-      cc
-
-  site_is_sound : IsSoundSite is.source.content
-  site_is_sound =
-      subst IsSoundSite content_is
-      (sound (site_in (newest_in heads)) policy read refl refl (subst HasNoContradiction (sym content_is) is.is_source.consistent))
-
-  pub pages_alike : page ≡ other
-  pages_alike =
-      one_page_of lists summary lines networks parts found few is.source its.source is.is_source its.is_source newest_alike pending_alike
+    (parts : SystemsAreToldInOneWay) (found : WhatIsFoundIsUnique) (few : ReadLinesHaveFewFlavours) where
+  pub pages_are_told_in_one_way : PagesAreToldInOneWay
+  pages_are_told_in_one_way heads others proposals waits word page other same once once_others pend pend_waits is its =
+      let newest : newest_in is.source.heads ≡ newest_in its.source.heads =
+      ap newest_in is.heads_are ∙ ap (λ (some : Standing). some.newest) same ∙ sym (ap newest_in its.heads_are) in
+      let pending : proposals_in is.source.proposals ≡ proposals_in its.source.proposals =
+      ap proposals_in is.proposals_are ∙ ap (λ (some : Standing). some.proposals) same ∙ sym (ap proposals_in its.proposals_are) in
+      one_page_of lists summary lines networks parts found few is.source its.source is.is_source its.is_source newest pending
       (subst StandOnce (sym is.heads_are) once) (subst StandOnce (sym its.heads_are) once_others) (subst PendOnce (sym is.proposals_are) pend)
-      (subst PendOnce (sym its.proposals_are) pend_waits) site_is_sound word page other is.found its.found is.is_found its.is_found is.widening its.widening
+      (subst PendOnce (sym its.proposals_are) pend_waits) is.sound word page other is.found its.found is.is_found its.is_found is.widening its.widening
       is.is its.is
-
-pub pages_are_told_in_one_way : ListsAreToldInOneWay → SummaryIsToldInOneWay → LinesAreToldInOneWay → NetworksAreToldInOneWay → SystemsAreToldInOneWay
-    → WhatIsFoundIsUnique → ReadLinesHaveFewFlavours → (policy : Content) → IsSoundIfRead policy → PagesAreToldInOneWay policy
-pages_are_told_in_one_way = pages_alike

@@ -3,7 +3,7 @@
 use Rattle.std.specs.Prelude.{◌≡◌, ℕ, All, List, Ok}
 use Rattle.desk_policy.specs.Parsing.{read_site}
 use Rattle.desk_policy.specs.Policy.{Content}
-use Rattle.desk_core.specs.Head.{Newest, StandOnce, newest_in}
+use Rattle.desk_core.specs.Head.{Newest, StandOnce}
 use Rattle.desk_core.specs.Site.{site_in}
 use Rattle.desk_core.specs.Standing.{PendOnce, standing_in}
 use Rattle.desk_core.specs.declared.head.Head.{Head}
@@ -45,10 +45,9 @@ pub record SystemsAreToldInOneWay : Type 0 where
       → AreAlike found.lines other.lines → found.decided ≡ other.decided → AreSystemTexts source found fs systems text → AreSystemTexts source other fs systems second
       → text ≡ second
 
--- So the page is: if the newest revisions write this policy, there is at most one page of how files stand, for this word, in whatever
--- order newest revisions and proposals are listed.
-abbrev pub PagesAreToldInOneWay : Content → Type 0
-PagesAreToldInOneWay policy =
+-- So the page is: there is at most one page of how files stand, for a word, in whatever order newest revisions and proposals are listed.
+abbrev pub PagesAreToldInOneWay : Type 0
+PagesAreToldInOneWay =
     (heads others : List Head) (proposals waits : List Proposal) (word page other : List ℕ) → standing_in heads proposals ≡ standing_in others waits
-    → StandOnce heads → StandOnce others → PendOnce proposals → PendOnce waits → read_site (site_in (newest_in heads)) ≡ Ok policy
-    → IsPageOf heads proposals word page → IsPageOf others waits word other → page ≡ other
+    → StandOnce heads → StandOnce others → PendOnce proposals → PendOnce waits → IsPageOf heads proposals word page → IsPageOf others waits word other
+    → page ≡ other

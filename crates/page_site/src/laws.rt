@@ -3,8 +3,7 @@
 ghost use Rattle.page_site.specs.MadeOfBlocks.{PrintedPagesAreMadeOfBlocks};
 ghost use Rattle.page_site.specs.UniqueLaws.{PagesAreToldInOneWay, SystemsAreToldInOneWay};
 
-use desk_policy::Policy;
-use page_data::{orders_tell_verdicts, sites_are_sound, what_is_found_is_unique};
+use page_data::{orders_tell_verdicts, what_is_found_is_unique};
 use page_filesystem::file_systems_are_told_in_one_way;
 use page_findings::{lines_are_told_in_one_way, read_lines_have_few_flavours};
 use page_lists::lists_are_told_in_one_way;
@@ -29,12 +28,10 @@ pub fn systems_are_told_in_one_way()
     lines_are_told_in_one_way();
 }
 
-/// Two pages of one state and for one word have the same bytes, in whatever order its newest revisions and proposals are listed. The policy
-/// that the newest revisions write is looked at, as a site's is.
-pub fn pages_are_told_in_one_way(policy: &Policy)
-    ensures { PagesAreToldInOneWay policy.now }
+/// Two pages of one state and for one word have the same bytes, in whatever order its newest revisions and proposals are listed.
+pub fn pages_are_told_in_one_way()
+    ensures { PagesAreToldInOneWay }
 {
-    sites_are_sound(policy);
     lists_are_told_in_one_way();
     summary_is_told_in_one_way();
     lines_are_told_in_one_way();
