@@ -1,4 +1,5 @@
-"""What stands on every report alike: its style sheet, the shapes of its maps, and how it is read."""
+"""What stands on every report alike: its style sheet; and as HTML the shapes of its maps, the links to its parts, the key of the maps,
+and how it is read."""
 
 STYLE = r'''
 :root{color-scheme:light dark;--bg:#fff;--fg:#1b1f23;--mute:#57606a;--line:#d3d9df;--soft:#f4f6f8;--hit:#fff6e5;--link:#0a58a6;--ro:#1f62a8;--rw:#c2560a;--rwt:#964206;--rk:#8b0a50;--in:#fff}
@@ -149,6 +150,24 @@ DEFINITIONS = '''<svg class="defs" width="0" height="0" aria-hidden="true" focus
 <g id="y" class="y"><text x="-2" y="4">0</text><text x="-2" y="20">64</text><text x="-2" y="36">128</text><text x="-2" y="52">192</text></g>
 <g id="y12" class="y"><text x="-2" y="4">16</text><text x="-2" y="20">20</text><text x="-2" y="36">24</text><text x="-2" y="52">28</text></g>
 </defs></svg>
+'''
+
+LINKS = '''</header>
+<nav aria-label="Parts of this report"><a href="#summary">Summary</a> <a href="#systems">File systems</a> <a href="#networks">Networks</a> <a href="#each">Each file system</a> <a href="#warnings">Warnings</a> <a href="#names">Names</a> <a href="#files">Files and revisions</a> <a href="#read">How to read this</a></nav>
+<main>
+'''
+
+LEGEND = '''<ul class="legend">
+<li><svg class="key" viewBox="-.5 -.5 5 5" aria-hidden="true" focusable="false"><path class="g" d="M0 0h4v4h-4z"/></svg> nobody</li>
+<li><svg class="key" viewBox="-.5 -.5 5 5" aria-hidden="true" focusable="false"><path class="g" d="M0 0h4v4h-4z"/><path class="o" d="M0 0h4v4h-4z"/></svg> all read-only</li>
+<li><svg class="key" viewBox="-.5 -.5 5 5" aria-hidden="true" focusable="false"><path class="g" d="M0 0h4v4h-4z"/><path class="w" d="M0 0h4v4h-4z"/></svg> all read-write</li>
+<li><svg class="key" viewBox="-.5 -.5 5 5" aria-hidden="true" focusable="false"><path class="g" d="M0 0h4v4h-4z"/><path class="r" d="M0 0h4v4h-4z"/></svg> all, root kept</li>
+<li><svg class="key" viewBox="-.5 -.5 5 5" aria-hidden="true" focusable="false"><path class="g" d="M0 0h4v4h-4z"/><path class="o k" d="M1 1h2v2h-2z"/></svg> some read-only</li>
+<li><svg class="key" viewBox="-.5 -.5 5 5" aria-hidden="true" focusable="false"><path class="g" d="M0 0h4v4h-4z"/><path class="w k" d="M1 1h2v2h-2z"/></svg> some read-write</li>
+<li><svg class="key" viewBox="-.5 -.5 5 5" aria-hidden="true" focusable="false"><path class="g" d="M0 0h4v4h-4z"/><path class="r k" d="M2 0l2 2-2 2-2-2z"/></svg> some, root kept</li>
+<li><svg class="key" viewBox="-.5 -.5 5 5" aria-hidden="true" focusable="false"><path class="g" d="M0 0h4v4h-4z"/><path class="o" d="M0 0h4v4h-4z"/><path class="r k" d="M2 0l2 2-2 2-2-2z"/></svg> all read-only, and some with root kept</li>
+</ul>
+<p class="key">A cell shows what all its addresses may, and in its middle the most that some may. <a href="#read">More on the maps</a></p>
 '''
 
 HOW_TO_READ = '''<section id="read">

@@ -3,8 +3,9 @@ most that some may. A cell is 4 units wide.
 """
 
 from reference.report.data import PRIVATE, READ_ONLY, READ_WRITE, ROOT_KEPT, cells, counts, maps_of, network_ends
-from reference.report.pieces import cut
-from reference.report.text import CLASS_MARKS, count_words, network_text, number, part_words, plural
+from reference.report.parts import Alone, Drawn, In, Network, Number, PartOf, Plural, Words, items_html
+from reference.report.pieces import class_counts, cut, joined
+from reference.report.text import CLASS_MARKS
 
 # The most maps of a file system, the four that stand there always counted, and of a group of directories.
 MOST_LARGE, MOST_SMALL = 12, 6
@@ -58,8 +59,9 @@ def map_paths(classes, network, prefix):
 
 
 def map_label(classes, network, prefix):
-    words = count_words(counts(classes, *network_ends(network, prefix)))
-    return f"Map of {network_text(network, prefix)}: {words}, of {number(2 ** (32 - prefix))} addresses"
+    words = class_counts(counts(classes, *network_ends(network, prefix)))
+    size = [Words(", of "), Number(2 ** (32 - prefix)), Words(" addresses")]
+    return items_html([Words("Map of "), Network(network, prefix), Words(": "), *words, *size])
 
 
 def large_map(classes, network, prefix):
@@ -74,26 +76,26 @@ def small_map(classes, network, prefix):
     return f'<svg class="tiny" viewBox="-1 -1 66 66" role="img" aria-label="{label}"><use href="#g"/>{paths}</svg>'
 
 
+def map_caption(classes, network, prefix):
+    name = items_html([Network(network, prefix) if prefix else Words("all of IPv4")])
+    some = items_html([PartOf(sum(counts(classes, *network_ends(network, prefix))[1:]), 2 ** (32 - prefix))])
+    return f"<figcaption><b>{name}</b> {some} may</figcaption>"
+
+
 def figures(classes, is_large):
     """The maps that show where the classes change; with those of all addresses and the private networks, if they are large."""
     wanted = maps_of(classes)
     if is_large:
         wanted = FIXED + [network for network in wanted if network not in FIXED]
     most = MOST_LARGE if is_large else MOST_SMALL
-    made = "".join(figure(classes, *network) for network in wanted[:most])
-    return f'<div class="maps">\n{made}</div>\n{not_drawn(wanted[most:])}'
-
-
-def figure(classes, network, prefix):
-    name = network_text(network, prefix) if prefix else "all of IPv4"
-    some = sum(counts(classes, *network_ends(network, prefix))[1:])
-    caption = f"<b>{name}</b> {part_words(some, 2 ** (32 - prefix))} may"
-    return f"<figure>{large_map(classes, network, prefix)}<figcaption>{caption}</figcaption></figure>\n"
+    images = [large_map(classes, *network) + map_caption(classes, *network) for network in wanted[:most]]
+    made = [Alone("MapsStart"), *(In("Figure", [Drawn(image)]) for image in images), Alone("MapsEnd")]
+    return made + not_drawn(wanted[most:])
 
 
 def not_drawn(rest):
     if not rest:
-        return ""
+        return []
     found = [(size, sum(prefix == size for _, prefix in rest)) for size in (8, 16, 24)]
-    kinds = ", ".join(f"{plural(count, 'network')} /{size}" for size, count in found if count)
-    return cut(f"{plural(len(rest), 'more map is', 'more maps are')} not drawn: {kinds}")
+    kinds = [[Plural(count, "network", "networks"), Words(f" /{size}")] for size, count in found if count]
+    return cut(Plural(len(rest), "more map is", "more maps are"), Words(" not drawn: "), *joined(kinds, Words(", ")))

@@ -1,41 +1,54 @@
 """The page of the report: its head, the summary, the tables of the site, and a part for each file system."""
 
-import base64
 import hashlib
 
 from reference.definitions import addresses_of, hosts_of, host_addresses, is_dotted
 from reference.idle import is_for_all
 from reference.lines import physical_lines
 from reference.readings import FILES, Tables, read_site
-from reference.report.constants import DEFINITIONS, HOW_TO_READ, STYLE
+from reference.report.constants import DEFINITIONS, HOW_TO_READ, LEGEND, LINKS
 from reference.report.data import (
     CHECK, FIRST, NAMING_LINES, PRIVATE, SPACE, FileSystem, counts, findings_of, flavours_of, is_read_only, keeps_root, network_ends, together,
     union,
 )  # fmt: skip
 from reference.report.maps import small_map
-from reference.report.pieces import cut, folded, folded_if_long, level_mark, line_link, ranges_cell, system_link, table, zero
-from reference.report.systems import file_of, finding_words, network_of, system_section, widening, widest_first
-from reference.report.text import (
-    and_more, class_badge, class_parts, code, codes, escaped, escaped_attribute, escaped_line, flavour_words, network_text, number,
-    part_words, plural, shell_word,
+from reference.report.parts import (
+    Alone, Break, Code, Codes, Count, Digest, Digits, Drawn, Fact, Facts, Fixed, FlavourNames, Flavours, Frame, Head, In, Line, LineLink, Link,
+    Name, Network, NewLine, Number, PartOf, Plain, Plural, Ranges, Said, Small, SmallCount, SmallPlural, Strong, System, SystemLine, Text, Word,
+    Words, Zero, render,
 )  # fmt: skip
+from reference.report.pieces import (
+    class_badge, class_parts, cut, findings_entries, folded, folded_if_long, joined, level_mark, paragraph, some_of, table,
+)  # fmt: skip
+from reference.report.systems import file_of, finding_words, network_of, system_section, widening, widest_first
+from reference.report.text import network_text, shell_word
 from reference.sarif import RULES
 from reference.warnings import NAMES, site_warnings
 
 # So many rows of findings stand in the open, and so many lines of a row are named; so many networks of the site are listed, file systems
 # named in a cell, and lines that write a name, and members of a group; and so many files stand in the open.
 OPEN_FINDINGS, MOST_SHARING, MOST_NETWORKS, MOST_SYSTEMS, MOST_USES, MOST_MEMBERS, OPEN_FILES = 24, 4, 64, 12, 6, 8, 40
-PARTS = {
-    "summary": "Summary",
-    "systems": "File systems",
-    "networks": "Networks",
-    "each": "Each file system",
-    "warnings": "Warnings",
-    "names": "Names",
-    "files": "Files and revisions",
-    "read": "How to read this",
-}
 SENTENCES = {number: sentence for group, number, _, sentence in RULES if group == "warning"}
+KINDS_OF_LINES = ["Lines", "Lines for everybody", "Lines that keep root", "Lines without effect"]
+FIGURES = Frame("big", False, [Fact(term) for term in ["File systems", *KINDS_OF_LINES, "Warnings", "Proposals"]])
+FINDINGS = [Name("Level"), Plain("Where"), Plain("What, and the line as written"), Count("Addresses")]
+FLAVOURS = [Name("Flavours"), Plain("In words"), Count("Lines"), Count("without -ro"), Plain("File systems")]
+MAPS = [Plain(words) for words in ["all of IPv4", *(network_text(*network) for network in PRIVATE)]]
+OVERVIEW = [
+    Name("File system"), Plain("At the most"), *MAPS, Count("Addresses"), Plain("Kept by"), Plain("In force"), Plain("Stands out"),
+]  # fmt: skip
+NETWORKS = [Name("Network"), Count("Addresses"), Plain("All of it, alike"), Plain("Parts of it, and how many addresses")]
+WARNINGS = [Name("File"), Plain("Line"), Plain("Word"), Plain("Name"), Plain("What it means")]
+NETGROUPS = [
+    Name("Name"), Count("Line"), Plain("Hosts and groups in it"), Count("Host names"), Count("Addresses"), Plain("Stands for"),
+    Plain("Written by"),
+]  # fmt: skip
+HOSTS = [Name("Name"), Plain("It is"), Count("Addresses"), Plain("Stands for"), Plain("Written by")]
+FILES_COLUMNS = [
+    Name("File"), Count("Revision"), Plain("Author"), Plain("Approver"), Plain("Profile"), Count("Bytes"), Plain("SHA-256 of the text"),
+    Plain("Remark"),
+]  # fmt: skip
+COMMA, BLANK, DASH = Words(", "), Words(" "), [Words("-")]
 
 
 class Report:
@@ -59,25 +72,14 @@ class Report:
 # ---- the head
 
 
-def head(name):
-    digest = base64.b64encode(hashlib.sha256(STYLE.encode()).digest()).decode()
-    policy = f"default-src 'none'; style-src 'sha256-{digest}'"
-    metas = {"viewport": "width=device-width, initial-scale=1", "color-scheme": "light dark", "referrer": "no-referrer"}
-    made = '<!DOCTYPE html>\n<html lang="en">\n<head>\n<meta charset="utf-8">\n'
-    made += f'<meta http-equiv="Content-Security-Policy" content="{policy}">\n'
-    made += "".join(f'<meta name="{meta}" content="{content}">\n' for meta, content in {**metas, "robots": "noindex"}.items())
-    return f"{made}<title>Exports of {escaped_attribute(name)}</title>\n<style>{STYLE}</style>\n</head>\n<body>\n"
-
-
 def header(report, name):
     desk = report.desk
-    revisions = plural(sum(map(desk.number, desk.files())), "revision")
-    files = plural(sum(file in desk.authors for file in desk.files()), "file")
-    made = f'<header>\n<p class="kind">Export report</p>\n<h1>Who may mount what: {code(name)}</h1>\n'
-    made += "<p>By the newest revisions in the database, for each of the 4,294,967,296 IPv4 addresses and every directory.</p>\n"
-    made += f'<p class="state">{revisions} in {files}. State <code>{state_digest(desk)}</code></p>\n</header>\n'
-    links = " ".join(f'<a href="#{part}">{words}</a>' for part, words in PARTS.items())
-    return f'{made}<nav aria-label="Parts of this report">{links}</nav>\n<main>\n'
+    revisions = sum(map(desk.number, desk.files()))
+    files = sum(file in desk.authors for file in desk.files())
+    counted = [Plural(revisions, "revision", "revisions"), Words(" in "), Plural(files, "file", "files")]
+    scope = "By the newest revisions in the database, for each of the 4,294,967,296 IPv4 addresses and every directory."
+    made = [Alone("HeaderStart"), In("Title", [Words("Who may mount what: "), Code(name)]), *paragraph(Words(scope))]
+    return [*made, In("State", [*counted, Words(". State "), Code(state_digest(desk))]), Fixed(LINKS)]
 
 
 def state_digest(desk):
@@ -113,58 +115,62 @@ def key_figures(report):
     writable = sum(not is_read_only(line.terms) for line in everybody)
     not_named = sum(line.clients[0] != "names" for line in root)
     return [
-        ("File systems", len(report.systems), f"{number(guarded)} guarded"),
-        ("Lines", len(report.lines), f"{plural(directories, 'directory', 'directories')} written"),
-        ("Lines for everybody", len(everybody), f"{number(writable)} without -ro"),
-        ("Lines that keep root", len(root), f"{number(not_named)} for networks or everybody"),
-        ("Lines without effect", len(report.lines) - len(report.granting()), "they grant nothing; not counted in the two before"),
-        ("Warnings", len(report.warnings), "about words"),
-        ("Proposals", len(report.desk.proposals), "not in force"),
+        figure(len(report.systems), SmallCount(guarded, "guarded")),
+        figure(len(report.lines), SmallPlural(directories, "directory written", "directories written")),
+        figure(len(everybody), SmallCount(writable, "without -ro")),
+        figure(len(root), SmallCount(not_named, "for networks or everybody")),
+        figure(len(report.lines) - len(report.granting()), Small("they grant nothing; not counted in the two before")),
+        figure(len(report.warnings), Small("about words")),
+        figure(len(report.desk.proposals), Small("not in force")),
     ]
 
 
+def figure(count, small):
+    return [Number(count), BLANK, small]
+
+
 def summary(report):
-    figures = "".join(
-        f"<div><dt>{term}</dt><dd>{number(count)} <small>{more}</small></dd></div>\n"
-        for term, count, more in key_figures(report)
-    )
     levels = [found.level for found in report.findings]
-    counted = f"{plural(levels.count(FIRST), 'line')} to look at first, {number(levels.count(CHECK))} to check."
-    rules = 'These are fixed rules over the lines (<a href="#read">below</a>); what the site intends they do not know.'
-    made = f'<section id="summary">\n<h2>Summary</h2>\n<dl class="big">\n{figures}</dl>\n'
-    made += f"<h3>What stands out</h3>\n{proposals_list(report)}<p>{counted} {rules}</p>\n"
-    return made + findings_tables(report) + flavours_table(report) + "</section>\n"
+    counted = [Plural(levels.count(FIRST), "line", "lines"), Words(" to look at first, "), Number(levels.count(CHECK))]
+    rules = [Words(" to check. These are fixed rules over the lines ("), Link("read", "below")]
+    rules.append(Words("); what the site intends they do not know."))
+    made = [Alone("SummaryStart"), Facts(FIGURES, key_figures(report)), In("Heading", [Words("What stands out")])]
+    made += proposals_list(report) + paragraph(*counted, *rules)
+    return [*made, *findings_tables(report), *flavours_table(report), Alone("SectionEnd")]
 
 
 def proposals_list(report):
     """The proposals by which clients may do more, in the order of the file systems."""
     counted = [(system, widening(report.desk, system)) for system in report.systems]
-    items = "".join(proposal_item(report.desk, system, count) for system, count in counted if count)
-    return f'<ul class="mine">{items}</ul>\n' if items else ""
+    return findings_entries([proposal_entry(report.desk, system, count) for system, count in counted if count])
 
 
-def proposal_item(desk, system, count):
+def proposal_entry(desk, system, count):
     author, _ = desk.proposals[file_of(system)]
-    words = f"{code(author)} proposes that clients may do more: {plural(count, 'change')}"
-    return f"<li>{level_mark(FIRST)} {system_link(system)}: {words}</li>\n"
+    words = [Code(author), Words(" proposes that clients may do more: "), Plural(count, "change", "changes")]
+    return [level_mark(FIRST), BLANK, link_to(system), Words(": "), *words]
+
+
+def link_to(system):
+    return System(system.number, system.name)
 
 
 def findings_tables(report):
     """Those of the first level come first, and of one level those of most addresses. Lines that are told alike share the row of the
     first of them."""
     if not report.findings:
-        return "<p>No line stands out by the rules of this report.</p>\n"
+        return paragraph(Words("No line stands out by the rules of this report."))
     order = lambda found: (found.level != FIRST, -found.count, found.system.number, found.line)
     shared = {}
     for found in sorted(report.findings, key=order):
         shared.setdefault(told_alike(found), []).append(found)
     rows = [finding_row(report, lines) for lines in shared.values()]
-    heads = ["Level", "Where", "What, and the line as written", "Addresses#"]
-    made = table("Lines that stand out", heads, rows[:OPEN_FINDINGS], "f", True)
+    made = table(Frame("f", False, FINDINGS), [Said("Lines that stand out")], rows[:OPEN_FINDINGS])
     rest = rows[OPEN_FINDINGS:]
     if not rest:
         return made
-    return made + folded(plural(len(rest), "more row"), table("More lines that stand out", heads, rest, "f"))
+    more = table(Frame("f", True, FINDINGS), [Said("More lines that stand out")], rest)
+    return made + folded([Plural(len(rest), "more row", "more rows")], more)
 
 
 def told_alike(found):
@@ -174,7 +180,7 @@ def told_alike(found):
     if kind != "names":
         return found.system.number, found.line
     names_lines = any(words in NAMING_LINES for _, words in found.words)
-    reasons = found.system.number if names_lines else None, finding_words(found)
+    reasons = found.system.number if names_lines else None, *finding_words(found)
     return tuple(clients[0]), found.terms, found.count, reasons
 
 
@@ -182,10 +188,10 @@ def finding_row(report, lines):
     """The row of lines that are told alike: where the first of them stand, and the text of the first of all."""
     found = lines[0]
     text = physical_lines(report.desk.texts[file_of(found.system)])[found.line - 1].whole
-    where = [f"{system_link(one.system)} {line_link(one.system, one.line)}" for one in lines]
-    shared = f"<br>{number(len(lines))} lines for the same names, the first of them:" if len(lines) > 1 else ""
-    what = f"{finding_words(found)}{shared}<br><code>{escaped_line(text)}</code>"
-    return [level_mark(found.level), and_more(where, MOST_SHARING, "<br>"), what, part_words(found.count)]
+    where = [[link_to(one.system), BLANK, LineLink(one.system.number, one.line)] for one in lines]
+    shared = [Break(), Number(len(lines)), Words(" lines for the same names, the first of them:")] if len(lines) > 1 else []
+    what = [*finding_words(found), *shared, Break(), Line(text)]
+    return [[level_mark(found.level)], some_of(where, MOST_SHARING, Break()), what, [PartOf(found.count, SPACE)]]
 
 
 def flavours_table(report):
@@ -195,54 +201,45 @@ def flavours_table(report):
         found.setdefault(tuple(flavours_of(line.terms)), []).append((system, line))
     rows = []
     for flavours, lines in sorted(found.items(), key=lambda item: (-len(item[1]), item[0])):
-        systems = list(dict.fromkeys(system_link(system) for system, _ in lines))
+        systems = dict.fromkeys(link_to(system) for system, _ in lines)
         writable = sum(not is_read_only(line.terms) for _, line in lines)
-        words = [code(":".join(flavours)), escaped(flavour_words(flavours))]
-        rows.append([*words, number(len(lines)), number(writable), and_more(systems, MOST_SYSTEMS)])
-    heads = ["Flavours", "In words", "Lines#", "without -ro#", "File systems"]
-    return table("Security flavours of the lines that grant", heads, rows, "a")
+        counted = [[Number(len(lines))], [Number(writable)]]
+        rows.append([[FlavourNames(flavours)], [Flavours(flavours)], *counted, some_of([[one] for one in systems], MOST_SYSTEMS)])
+    return table(Frame("a", True, FLAVOURS), [Said("Security flavours of the lines that grant")], rows)
 
 
 # ---- the file systems, and the networks
 
 
-def legend():
-    full, square = '<path class="%s" d="M0 0h4v4h-4z"/>', '<path class="%s k" d="M1 1h2v2h-2z"/>'
-    diamond = '<path class="%s k" d="M2 0l2 2-2 2-2-2z"/>'
-    keys = [("", "nobody"), (full % "o", "all read-only"), (full % "w", "all read-write"), (full % "r", "all, root kept")]
-    keys += [(square % "o", "some read-only"), (square % "w", "some read-write"), (diamond % "r", "some, root kept")]
-    keys.append((full % "o" + diamond % "r", "all read-only, and some with root kept"))
-    shape = '<svg class="key" viewBox="-.5 -.5 5 5" aria-hidden="true" focusable="false"><path class="g" d="M0 0h4v4h-4z"/>'
-    items = "".join(f"<li>{shape}{paths}</svg> {words}</li>\n" for paths, words in keys)
-    words = "A cell shows what all its addresses may, and in its middle the most that some may."
-    return f'<ul class="legend">\n{items}</ul>\n<p class="key">{words} <a href="#read">More on the maps</a></p>\n'
-
-
 def overview(report):
     """A row for all file systems together, and one for each."""
-    networks = ["all of IPv4", *(network_text(*network) for network in PRIVATE)]
-    heads = ["File system", "At the most", *networks, "Addresses#", "Kept by", "In force", "Stands out"]
-    caption = "The file systems, and where the clients are that may mount some directory of them"
-    rows = [["<b>any of them</b>", *classes_cells(together(report.systems)), "", "", ""]]
+    rows = [[[Strong("any of them")], *classes_cells(together(report.systems)), [], [], []]]
     rows += [system_row(report, system) for system in report.systems]
-    return table(caption, heads, rows, "o", True)
+    caption = "The file systems, and where the clients are that may mount some directory of them"
+    return table(Frame("o", False, OVERVIEW), [Said(caption)], rows)
 
 
 def classes_cells(classes):
     """The most that an address may, four maps, and how many addresses may something."""
-    maps = [small_map(classes, *network) for network in [(0, 0), *PRIVATE]]
+    maps = [[Drawn(small_map(classes, *network))] for network in [(0, 0), *PRIVATE]]
     some = sum(counts(classes, 0, SPACE - 1)[1:])
-    return [class_badge(max(value for _, _, value in classes)), *maps, part_words(some)]
+    return [[class_badge(max(value for _, _, value in classes))], *maps, [PartOf(some, SPACE)]]
 
 
 def system_row(report, system):
     desk, name = report.desk, file_of(system)
-    kept = codes(desk.custodians(name)) + (" <b>guarded</b>" if name in desk.guarded() else "")
-    revision = f"rev {desk.number(name)} by {code(desk.authors[name][1])}" if name in desk.authors else "none"
-    revision += " <b>proposal waits</b>" if name in desk.proposals else ""
+    kept = [Codes(desk.custodians(name)), *marked(name in desk.guarded(), "guarded")]
+    revision = [Words("none")]
+    if name in desk.authors:
+        revision = [Words("rev "), Digits(desk.number(name)), Words(" by "), Code(desk.authors[name][1])]
+    revision += marked(name in desk.proposals, "proposal waits")
     levels = [found.level for found in report.findings_in(system)]
-    counted = ", ".join(f"{number(levels.count(level))} {level}" for level in (FIRST, CHECK) if level in levels)
-    return [system_link(system), *classes_cells(system.classes), kept, revision, counted or zero("nothing")]
+    counted = joined([[Number(levels.count(level)), Words(f" {level}")] for level in (FIRST, CHECK) if level in levels], COMMA)
+    return [[link_to(system)], *classes_cells(system.classes), kept, revision, counted or [Zero("nothing")]]
+
+
+def marked(is_so, words):
+    return [BLANK, Strong(words)] if is_so else []
 
 
 def networks_table(report):
@@ -250,14 +247,14 @@ def networks_table(report):
     written = {network_of(line) for _, line in report.lines if line.clients[0] == "network" and not is_for_all(line)}
     ordered = sorted(written, key=widest_first)
     if not ordered:
-        return "<p>No line writes a network, but for /0 or one of IPv6.</p>\n"
-    heads = ["Network", "Addresses#", "All of it, alike", "Parts of it, and how many addresses"]
+        return paragraph(Words("No line writes a network, but for /0 or one of IPv6."))
     rows = [network_row(report, *network) for network in ordered[:MOST_NETWORKS]]
-    made = table("What the networks may mount that lines write", heads, rows, "p", True)
     rest = len(ordered) - MOST_NETWORKS
-    more = plural(rest, "more network is", "more networks are")
-    words = "The networks that lines write, but for /0 and those of IPv6, the widest first, and what their addresses may mount at the most, on some directory of each file system."
-    return f"<p>{words}</p>\n" + made + (cut(f"{more} not listed, none of them wider") if rest > 0 else "")
+    more = [Plural(rest, "more network is", "more networks are"), Words(" not listed, none of them wider")]
+    words = "The networks that lines write, but for /0 and those of IPv6, the widest first, and what their addresses may mount at the most,"
+    made = paragraph(Words(f"{words} on some directory of each file system."))
+    made += table(Frame("p", False, NETWORKS), [Said("What the networks may mount that lines write")], rows)
+    return made + (cut(*more) if rest > 0 else [])
 
 
 def network_row(report, first, prefix):
@@ -266,17 +263,17 @@ def network_row(report, first, prefix):
         found = counts(system.classes, *network_ends(first, prefix))
         values = [value for value in (3, 2, 1) if found[value]]
         if values and found[values[0]] == whole:
-            alike.append(f"{system_link(system)} {class_badge(values[0])}")
+            alike.append([link_to(system), BLANK, class_badge(values[0])])
         elif values:
-            parts.append(f"{system_link(system)} {class_parts(found)}")
-    return [network_text(first, prefix), number(whole), systems_cell(alike, "; "), systems_cell(parts, "<br>")]
+            parts.append([link_to(system), BLANK, *class_parts(found)])
+    return [[Network(first, prefix)], [Number(whole)], systems_cell(alike, Words("; ")), systems_cell(parts, Break())]
 
 
-def systems_cell(words, between):
-    """Of file systems with their words the first, and how many more there are."""
-    rest = len(words) - MOST_SYSTEMS
-    more = [plural(rest, "more file system")] if rest > 0 else []
-    return between.join(words[:MOST_SYSTEMS] + more) or zero("-")
+def systems_cell(told, between):
+    """Of file systems with what is told of them the first, and how many more there are."""
+    rest = len(told) - MOST_SYSTEMS
+    more = [[Plural(rest, "more file system", "more file systems")]] if rest > 0 else []
+    return joined(told[:MOST_SYSTEMS] + more, between) or [Zero("-")]
 
 
 # ---- warnings, names, files
@@ -284,14 +281,14 @@ def systems_cell(words, between):
 
 def warnings_table(report):
     if not report.warnings:
-        return "<p>No word has a warning.</p>\n"
-    systems = {file_of(system): system for system in report.systems}
+        return paragraph(Words("No word has a warning."))
+    numbers = {file_of(system): system.number for system in report.systems}
     rows = []
     for name, line, kind, word in report.warnings:
-        where = line_link(systems[name], line) if name in systems else f"line {line}"
-        rows.append([code(name), where, code(word), NAMES[kind], SENTENCES[kind]])
-    made = table("Warnings about words", ["File", "Line", "Word", "Name", "What it means"], rows)
-    return folded_if_long(made, len(rows), plural(len(rows), "warning"))
+        where = [LineLink(numbers[name], line)] if name in numbers else [Words("line "), Digits(line)]
+        rows.append([[Code(name)], where, [Code(word)], [Words(NAMES[kind])], [Words(SENTENCES[kind])]])
+    made = table(Frame("", True, WARNINGS), [Said("Warnings about words")], rows)
+    return folded_if_long(made, len(rows), [Plural(len(rows), "warning", "warnings")])
 
 
 def names_tables(report):
@@ -300,12 +297,8 @@ def names_tables(report):
 
 def uses_cell(report, name):
     """The lines that write a name."""
-    uses = [
-        f'<a href="#f{system.number}-{line.number}">{code(system.name)} line&nbsp;{line.number}</a>'
-        for system, line in report.lines
-        if name in names_on(line)
-    ]
-    return and_more(uses, MOST_USES) if uses else zero("no line")
+    uses = [[SystemLine(system.number, system.name, line.number)] for system, line in report.lines if name in names_on(line)]
+    return some_of(uses, MOST_USES) if uses else [Zero("no line")]
 
 
 def names_on(line):
@@ -313,22 +306,22 @@ def names_on(line):
 
 
 def addresses_cell(addresses):
-    return ranges_cell(union((address, address) for address in addresses)) if addresses else "<b>nobody</b>"
+    return [Ranges(union((address, address) for address in addresses)) if addresses else Strong("nobody")]
 
 
 def netgroups_table(report):
     site, lines = report.site, report.tables.group_lines
     if not site.groups:
-        return "<p>The table <code>netgroup</code> has none.</p>\n"
+        return paragraph(Words("The table "), Word("netgroup"), Words(" has none."))
     rows = []
     for group, members in site.groups.items():
-        written = [code(name) if kind == "host" else f"group {code(name)}" for kind, name in members]
+        written = [[Code(name)] if kind == "host" else [Words("group "), Code(name)] for kind, name in members]
         addresses = addresses_of(site, group)
-        hosts = number(len(hosts_of(site, group, len(site.groups))))
-        words = [code(group), number(lines[group]), and_more(written, MOST_MEMBERS) or "-", hosts]
-        rows.append([*words, number(len(addresses)), addresses_cell(addresses), uses_cell(report, group)])
-    heads = ["Name", "Line#", "Hosts and groups in it", "Host names#", "Addresses#", "Stands for", "Written by"]
-    return folded_if_long(table("Netgroups", heads, rows, "n"), len(rows), plural(len(rows), "netgroup"))
+        hosts = hosts_of(site, group, len(site.groups))
+        cells = [[Code(group)], [Number(lines[group])], some_of(written, MOST_MEMBERS) if written else DASH, [Number(len(hosts))]]
+        rows.append([*cells, [Number(len(addresses))], addresses_cell(addresses), uses_cell(report, group)])
+    made = table(Frame("n", True, NETGROUPS), [Said("Netgroups")], rows)
+    return folded_if_long(made, len(rows), [Plural(len(rows), "netgroup", "netgroups")])
 
 
 def hosts_table(report):
@@ -337,65 +330,68 @@ def hosts_table(report):
     names = [name for name in written if not is_dotted(name) and (":" in name or name not in report.site.groups)]
     rows = [host_row(report, name) for name in sorted(names, key=lambda name: name.encode())]
     if not rows:
-        return ""
-    heads = ["Name", "It is", "Addresses#", "Stands for", "Written by"]
-    return folded_if_long(table("Names of hosts that lines write", heads, rows, "n"), len(rows), plural(len(rows), "name"))
+        return []
+    made = table(Frame("n", True, HOSTS), [Said("Names of hosts that lines write")], rows)
+    return folded_if_long(made, len(rows), [Plural(len(rows), "name", "names")])
 
 
 def host_row(report, name):
     found = host_addresses(report.site, name)
     kind = "of the table hosts" if found else "of IPv6: nobody" if ":" in name else "no IPv4 address in the table hosts: nobody"
-    return [code(name), kind, number(len(found)), addresses_cell(found), uses_cell(report, name)]
+    return [[Code(name)], [Words(kind)], [Number(len(found))], addresses_cell(found), uses_cell(report, name)]
 
 
 def files_table(report):
     desk = report.desk
     rows = [file_row(report, name) for name in desk.files() if name in desk.authors or name in desk.proposals]
-    heads = ["File", "Revision#", "Author", "Approver", "Profile", "Bytes#", "SHA-256 of the text", "Remark"]
-    made = table("Files and their newest revisions", heads, rows, "h")
-    return folded_if_long(made, len(rows), plural(len(rows), "file"), OPEN_FILES)
+    made = table(Frame("h", True, FILES_COLUMNS), [Said("Files and their newest revisions")], rows)
+    return folded_if_long(made, len(rows), [Plural(len(rows), "file", "files")], OPEN_FILES)
 
 
 def file_row(report, name):
     """The newest revision of a file, and who proposes another text. One that is only proposed has no revision."""
     desk = report.desk
-    remarks = [f"proposal by {code(desk.proposals[name][0])}"] if name in desk.proposals else []
-    remarks += [] if name in FILES or name in map(file_of, report.systems) else ["unlisted"]
-    revision = revision_cells(desk, name) if name in desk.authors else ["-"] * 6
-    return [code(name), *revision, ", ".join(remarks) or "-"]
+    remarks = [[Words("proposal by "), Code(desk.proposals[name][0])]] if name in desk.proposals else []
+    remarks += [] if name in FILES or name in map(file_of, report.systems) else [[Words("unlisted")]]
+    revision = revision_cells(desk, name) if name in desk.authors else [DASH] * 6
+    return [[Code(name)], *revision, joined(remarks, COMMA) or DASH]
 
 
 def revision_cells(desk, name):
     (revision, author), approver, text = desk.authors[name], desk.approvers.get(name), desk.texts[name]
-    who = [code(author), code(approver) if approver else "-", "-" if name in FILES else str(desk.profile(name))]
-    return [number(revision), *who, number(len(text.encode())), f'<code class="sha">{sha256(text)}</code>']
+    who = [[Code(author)], [Code(approver)] if approver else DASH, DASH if name in FILES else [Digits(desk.profile(name))]]
+    return [[Number(revision)], *who, [Number(len(text.encode()))], [Digest(sha256(text))]]
 
 
 def make_again(name):
-    word = escaped(shell_word(name))
-    commands = f"exportdesk report {word} &gt;report.html\nexportdesk report {word} | cmp - report.html\n"
-    commands += f"exportdesk cat {word} exports:MOUNT | sha256sum"
+    word, report = Text(shell_word(name)), Words("exportdesk report ")
+    commands = [report, word, Words(" >report.html"), NewLine(), report, word, Words(" | cmp - report.html"), NewLine()]
+    commands += [Words("exportdesk cat "), word, Words(" exports:MOUNT | sha256sum")]
     words = "The page has no date and no name of a machine: one version of exportdesk makes the same page, to the byte, of the same"
     words += " state and the same name of the database."
-    return f"<h3>Make it again, and compare</h3>\n<pre><code>{commands}</code></pre>\n<p>{words}</p>\n"
+    return [In("Heading", [Words("Make it again, and compare")]), In("Commands", commands), *paragraph(Words(words))]
 
 
 # ---- all of it
 
 
-def section(part, heading, made):
-    return f'<section id="{part}">\n<h2>{heading}</h2>\n{made}</section>\n'
-
-
 def page(desk, name):
     """The page of a database that a command names by this word."""
+    return render(page_blocks(desk, name))
+
+
+def page_blocks(desk, name):
     report = Report(desk)
-    each = "".join(system_section(desk, system, report.findings_in(system)) for system in report.systems)
-    made = head(name) + DEFINITIONS + header(report, name) + summary(report)
-    made += section("systems", "File systems", legend() + overview(report))
-    made += section("networks", "Networks of the site", networks_table(report))
-    made += section("each", "Each file system", each)
-    made += section("warnings", "Warnings", warnings_table(report))
-    made += section("names", "Netgroups and names", names_tables(report))
-    made += section("files", "Files and revisions", files_table(report) + make_again(name))
-    return f"{made}{HOW_TO_READ}</main>\n</body>\n</html>\n"
+    made = [Head(name), Fixed(DEFINITIONS), *header(report, name), *summary(report)]
+    made += section("SystemsStart", [Fixed(LEGEND), *overview(report)])
+    made += section("NetworksStart", networks_table(report))
+    each = [block for system in report.systems for block in system_section(desk, system, report.findings_in(system))]
+    made += section("EachStart", each)
+    made += section("WarningsStart", warnings_table(report))
+    made += section("NamesStart", names_tables(report))
+    made += section("FilesStart", files_table(report) + make_again(name))
+    return [*made, Fixed(HOW_TO_READ), Alone("PageEnd")]
+
+
+def section(start, blocks):
+    return [Alone(start), *blocks, Alone("SectionEnd")]

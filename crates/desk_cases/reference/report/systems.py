@@ -8,10 +8,13 @@ from reference.report.data import (
     GRANTS_MORE, LEFT_OUT, PRIVATE, SPACE, FileSystem, changed_places, class_of, classes_of, counts, network_ends, size_of,
 )  # fmt: skip
 from reference.report.maps import figures
-from reference.report.pieces import cut, folded, folded_if_long, level_mark, line_link, ranges_cell, table, table_of, zero
-from reference.report.text import (
-    and_more, class_badge, class_parts, code, codes, escaped, escaped_line, network_text, number, part_words, percent, plural,
-    range_text, terms_badge, terms_words,
+from reference.report.parts import (
+    Alone, AndMore, Code, Codes, Count, Digits, Fact, Facts, Frame, Further, In, Line, LineLink, LineRow, Link, MarkedRow, Name, Named, Network,
+    Number, PartOf, Plain, Plural, Range, Ranges, Said, SmallPercent, Strong, SystemStart, Terms, Word, Words, Zero,
+)  # fmt: skip
+from reference.report.pieces import (
+    class_badge, class_parts, cut, findings_entries, folded, folded_if_long, joined, level_mark, paragraph, some_of, table, table_of,
+    terms_badge,
 )  # fmt: skip
 from reference.why import named_line
 
@@ -20,12 +23,20 @@ OPEN_LINES, MOST_DRAWN, MOST_GROUPS = 40, 12, 100
 # So many directories stand in a heading, and in a caption; so many lines that decide for the clients of another one, reasons of a
 # denial apart, networks in the table of shares, and lines whose denials mountd(8) does not keep.
 MOST_NAMES, MOST_CAPTION, MOST_DECIDING, MOST_REASONS, MOST_SHARES, MOST_OPENINGS = 8, 3, 6, 5, 12, 6
-OTHERS = "other directories"
+OTHERS, EVERYBODY_ELSE = "other directories", Words("everybody else")
+EVERY_DIRECTORY = [Words("every directory of the file system ("), Word("-alldirs"), Words(")")]
 # What does not matter to a client.
 SILENT = (
     "of lines or reasons alone: the same clients may mount the same on the same terms, and only the line that grants it, or the reason"
     " of a denial, is another"
 )
+
+FACTS = Frame("facts", False, [Fact("In force"), Fact("Custodians"), Fact("Guarded"), Fact("May mount some of it")])
+TEXT = Frame("text", False, [Name("Line"), Plain("It grants"), Count("to addresses"), Plain("Text")])
+PROPOSED = Frame("text", False, [Name("Line"), Plain("In force?"), Plain("Text")])
+CHANGES = Frame("i", True, [Name("Directory"), Plain("Clients"), Count("Addresses"), Plain("Now"), Plain("Then")])
+VERDICTS = Frame("v", False, [Name("Verdict"), Plain("Clients"), Count("Addresses"), Plain("By, and on what terms")])
+SHARES = Frame("s", True, [Name("Network"), *map(Count, ["has", "read-only", "read-write", "root kept", "may mount"])])
 
 
 def file_of(system):
@@ -38,26 +49,36 @@ def file_of(system):
 def finding_words(finding):
     """The words of a finding, with the lines that decide in place of one that never does, and with what mountd(8) does."""
     told = {"never decides": deciding_words, GRANTS_MORE: wider_words, LEFT_OUT: repeated_words}
-    return ", ".join(told[words](finding) if words in told else words for _, words in finding.words)
+    reasons = [told[words](finding) if words in told else [Words(words)] for _, words in finding.words]
+    return joined(reasons, Words(", "))
+
+
+def link_to(system, line):
+    return LineLink(system.number, line)
+
+
+def address_alone(address):
+    return Range(address, address)
 
 
 def wider_words(finding):
     other, address, directory = finding.system.wider[finding.line]
-    listed = "every directory of the file system (<code>-alldirs</code>)" if directory is None else f"{code(printed(directory))} too"
-    return f"{GRANTS_MORE}: to {dotted(address)} {line_link(finding.system, other)} lists {listed}"
+    listed = [Code(printed(directory)), Words(" too")] if directory is not None else EVERY_DIRECTORY
+    found = [address_alone(address), Words(" "), link_to(finding.system, other)]
+    return [Words(f"{GRANTS_MORE}: to "), *found, Words(" lists "), *listed]
 
 
 def repeated_words(finding):
     other, address = finding.system.repeated[finding.line]
-    return f"{LEFT_OUT}: {line_link(finding.system, other)} has {dotted(address)}"
+    return [Words(f"{LEFT_OUT}: "), link_to(finding.system, other), Words(" has "), address_alone(address)]
 
 
 def deciding_words(finding):
     system = finding.system
     line = next(line for line in system.lines if line.number == finding.line)
-    others = [line_link(system, other) for other in system.deciding(line)]
+    others = [[link_to(system, other)] for other in system.deciding(line)]
     decide = "decides" if len(others) == 1 else "decide"
-    return f"never decides: {and_more(others, MOST_DECIDING)} {decide} for all its clients"
+    return [Words("never decides: "), *some_of(others, MOST_DECIDING), Words(f" {decide} for all its clients")]
 
 
 # ---- the text in force
@@ -66,29 +87,24 @@ def deciding_words(finding):
 def line_note(system, line):
     """What a line does, and to how many addresses it grants something."""
     if system.decides_nothing(line):
-        return f"<b>{'matches nobody' if system.matches_nobody(line) else 'never decides'}</b>", ""
-    everybody = " <b>everybody</b>" if is_for_all(line) else ""
-    return terms_badge(line.terms) + everybody, number(size_of(system.grants[line.number]))
+        return [Strong("matches nobody" if system.matches_nobody(line) else "never decides")], []
+    everybody = [Words(" "), Strong("everybody")] if is_for_all(line) else []
+    return [terms_badge(line.terms), *everybody], [Number(size_of(system.grants[line.number]))]
 
 
 def text_table(system, text, marked):
     """Each physical line with what it does; those of the marked lines stand out."""
     if not physical_lines(text):
-        return "<p>The text is empty: nobody may mount any of its directories.</p>\n"
+        return paragraph(Words("The text is empty: nobody may mount any of its directories."))
     notes = {line.number: line_note(system, line) for line in system.lines}
     for line in logical_lines(text):
         if words_of(line)[0][0].startswith("V4:"):
-            notes[line.number] = zero("not read"), ""
-    rows = "".join(text_row(system, part, marked, *notes.get(part.number, ("", ""))) for part in physical_lines(text))
-    heads = ["Line", "It grants", "to addresses#", "Text"]
-    caption, label = (f"Text of {name}, and what each line grants" for name in (code(system.name), system.name))
-    return table_of(caption, heads, rows, "text", True, label)
-
-
-def text_row(system, part, marked, note, count):
-    hit = ' class="hit"' if part.number in marked else ""
-    cells = f'<td>{note}</td><td class="num">{count}</td><td><code>{escaped_line(part.whole)}</code></td>'
-    return f'<tr id="f{system.number}-{part.number}"{hit}><th scope="row">{part.number}</th>{cells}</tr>\n'
+            notes[line.number] = [Zero("not read")], []
+    rows = []
+    for part in physical_lines(text):
+        cells = [[Digits(part.number)], *notes.get(part.number, ([], [])), [Line(part.whole)]]
+        rows.append(LineRow(system.number, part.number, part.number in marked, TEXT, cells))
+    return table_of(TEXT, [Said("Text of "), Named(system.name), Said(", and what each line grants")], rows)
 
 
 # ---- who may mount which directory
@@ -106,7 +122,8 @@ def verdict_rows(system, group):
     if len(denied) > MOST_REASONS:
         ranges = [found for verdict in denied for found in by_verdict[verdict]]
         reason = "no line matches them, or those that match them best list none of these"
-        return [*rows, [class_badge(0), "everybody else", part_words(size_of(ranges)), reason]], len(granted)
+        reason = "no line matches them, or those that match them best list none of these"
+        return [*rows, denial([EVERYBODY_ELSE], ranges, [Words(reason)])], len(granted)
     return rows + [denied_row(system, verdict, by_verdict[verdict]) for verdict in denied], len(granted)
 
 
@@ -117,15 +134,23 @@ def denial_order(verdict):
 
 def granted_row(system, verdict, ranges):
     terms = effect(verdict)
-    by = f"{line_link(system, named_line(verdict))}: {terms_words(terms)}"
-    return [terms_badge(terms), ranges_cell(ranges), part_words(size_of(ranges)), by]
+    by = [link_to(system, named_line(verdict)), Words(": "), Terms(terms)]
+    return [[terms_badge(terms)], [Ranges(ranges)], [amount(ranges)], by]
 
 
 def denied_row(system, verdict, ranges):
     line = named_line(verdict)
-    clients = "everybody else" if line is None else ranges_cell(ranges)
-    reason = f"{line_link(system, line)} matches them best, but lists none of these" if line else "no line matches them"
-    return [class_badge(0), clients, part_words(size_of(ranges)), reason]
+    if line is None:
+        return denial([EVERYBODY_ELSE], ranges, [Words("no line matches them")])
+    return denial([Ranges(ranges)], ranges, [link_to(system, line), Words(" matches them best, but lists none of these")])
+
+
+def denial(clients, ranges, reason):
+    return [[class_badge(0)], clients, [amount(ranges)], reason]
+
+
+def amount(ranges):
+    return PartOf(size_of(ranges), SPACE)
 
 
 def directories_of(system, places):
@@ -133,62 +158,71 @@ def directories_of(system, places):
     return [printed(place) for place in places if place != system.other]
 
 
-def group_words(system, group, most, shown=code):
+def group_title(system, group, most):
     """The first directories of a group, how many more it has, and whether the other directories are in it."""
-    names = list(map(shown, directories_of(system, group)))
-    words = [and_more(names, most)] if names else []
-    return ", ".join([*words, OTHERS] if system.other in group else words)
+    names = directories_of(system, group)
+    title = [*joined([[Named(name)] for name in names[:most]], Said(", ")), Further(max(len(names) - most, 0))]
+    others = [Said(f", {OTHERS}" if names else OTHERS)] if system.other in group else []
+    return [*title, *others]
+
+
+def shown(part):
+    """A part of a title where it is no title."""
+    return {Said: Words, Named: Code, Further: AndMore}[type(part)](*vars(part).values())
 
 
 def group_block(system, group, is_drawn):
     """A group of directories whose grants are the same: maps, and a row for each verdict."""
-    made = f'<section class="place">\n<h5>{group_words(system, group, MOST_NAMES)}</h5>\n'
+    made = [Alone("PlaceStart"), In("PlaceHeading", list(map(shown, group_title(system, group, MOST_NAMES))))]
     rest = directories_of(system, group)[MOST_NAMES:]
     if rest:
-        made += folded(directories_more(len(rest)), f'<p class="names">{codes(rest)}</p>\n')
-    if not system.granted(group[0]):
-        return f"{made}<p>Nobody may mount them.</p>\n{openings_block(system, group)}</section>\n"
-    made += figures(classes_of(system.who[group[0]]), False) if is_drawn else ""
-    return made + verdict_table(system, group) + openings_block(system, group) + "</section>\n"
+        made += folded([directories_more(len(rest))], [In("Names", [Codes(rest)])])
+    if system.granted(group[0]):
+        made += figures(classes_of(system.who[group[0]]), False) if is_drawn else []
+        made += verdict_table(system, group)
+    else:
+        made += paragraph(Words("Nobody may mount them."))
+    return [*made, *openings_block(system, group), Alone("SectionEnd")]
 
 
 def openings_block(system, group):
     """What mountd(8) grants of that which is denied."""
     found = [opening_words(system, *opening) for opening in system.openings(group)]
-    return f"<p>mountd(8) grants more: {and_more(found, MOST_OPENINGS)}</p>\n" if found else ""
+    return paragraph(Words("mountd(8) grants more: "), *some_of(found, MOST_OPENINGS)) if found else []
 
 
 def opening_words(system, address, place, denied, line):
-    what = OTHERS if place == system.other else code(printed(place))
-    return f"{what} to {dotted(address)} by {line_link(system, line)} (denied here by {line_link(system, denied)})"
+    what = [Words(OTHERS) if place == system.other else Code(printed(place)), Words(" to "), address_alone(address)]
+    return [*what, Words(" by "), link_to(system, line), Words(" (denied here by "), link_to(system, denied), Words(")")]
 
 
 def verdict_table(system, group):
     rows, granting = verdict_rows(system, group)
-    caption, label = (f"Who may mount {group_words(system, group, MOST_CAPTION, shown)}" for shown in (code, str))
-    made = table(caption, ["Verdict", "Clients", "Addresses#", "By, and on what terms"], rows, "v", True, label)
-    return folded_if_long(made, len(rows), f"{plural(granting, 'line')} that grant it")
+    made = table(VERDICTS, [Said("Who may mount "), *group_title(system, group, MOST_CAPTION)], rows)
+    return folded_if_long(made, len(rows), [Plural(granting, "line", "lines"), Words(" that grant it")])
 
 
 def directories_more(count):
-    return plural(count, "more directory", "more directories")
+    return Plural(count, "more directory", "more directories")
 
 
 def not_listed(system, places):
     """How many directories are left out, and whether the other directories are."""
     count = len(directories_of(system, places))
-    words = [directories_more(count)] if count else []
-    words += [OTHERS] if system.other in places else []
-    return cut(f"Not listed here: {' and '.join(words)}; <code>exportdesk who</code> answers for each") if words else ""
+    words = [[directories_more(count)]] if count else []
+    words += [[Words(OTHERS)]] if system.other in places else []
+    left_out = [Words("Not listed here: "), *joined(words, Words(" and ")), Words("; "), Word("exportdesk who"), Words(" answers for each")]
+    return cut(*left_out) if words else []
 
 
 def groups_block(system):
     groups = system.groups()
-    made = '<h4 class="sub">Who may mount which directory</h4>\n'
+    made = [In("PlacesHeading", [Words("Who may mount which directory")])]
     if len(groups) > MOST_DRAWN:
-        made += cut(f"Maps of the single directories are not drawn: there are {number(len(groups))} lists")
+        made += cut(Words("Maps of the single directories are not drawn: there are "), Number(len(groups)), Words(" lists"))
     is_drawn = 1 < len(groups) <= MOST_DRAWN
-    made += "".join(group_block(system, group, is_drawn) for group in groups[:MOST_GROUPS])
+    for group in groups[:MOST_GROUPS]:
+        made += group_block(system, group, is_drawn)
     return made + not_listed(system, [place for group in groups[MOST_GROUPS:] for place in group])
 
 
@@ -200,15 +234,13 @@ def shares_table(system):
     that a line writes, the widest first."""
     written = {network_of(line) for line in system.lines if line.clients[0] == "network" and not is_for_all(line)}
     own = sorted(written - set(PRIVATE), key=widest_first)
-    shares = [("all of IPv4", [(0, SPACE - 1)]), ("outside private space", outside_private())]
-    shares += [(network_text(*network), [network_ends(*network)]) for network in [*PRIVATE, *own[:MOST_SHARES]]]
-    heads = ["Network", "has#", "read-only#", "read-write#", "root kept#", "may mount#"]
-    words = "Addresses that may mount some directory of "
-    rows = [share_row(system, *share) for share in shares]
-    made = table(words + code(system.name), heads, rows, "s", label=words + system.name)
+    shares = [(Words("all of IPv4"), [(0, SPACE - 1)]), (Words("outside private space"), outside_private())]
+    shares += [(Network(*network), [network_ends(*network)]) for network in [*PRIVATE, *own[:MOST_SHARES]]]
+    title = [Said("Addresses that may mount some directory of "), Named(system.name)]
+    made = table(SHARES, title, [share_row(system, *share) for share in shares])
     rest = len(own) - MOST_SHARES
-    more = plural(rest, "more network that lines write is", "more networks that lines write are")
-    return made + (cut(f"{more} not listed, none of them wider") if rest > 0 else "")
+    more = Plural(rest, "more network that lines write is", "more networks that lines write are")
+    return made + (cut(more, Words(" not listed, none of them wider")) if rest > 0 else [])
 
 
 def network_of(line):
@@ -231,8 +263,8 @@ def outside_private():
 def share_row(system, name, ranges):
     by_class = [sum(found) for found in zip(*(counts(system.classes, *ends) for ends in ranges))]
     whole, some = size_of(ranges), sum(by_class[1:])
-    counted = [number(count) if count else zero("0") for count in by_class[1:]]
-    return [name, number(whole), *counted, f"{part_words(some, whole)} <small>{percent(some, whole)}</small>"]
+    counted = [[Number(count) if count else Zero("0")] for count in by_class[1:]]
+    return [[name], [Number(whole)], *counted, [PartOf(some, whole), Words(" "), SmallPercent(some, whole)]]
 
 
 # ---- a proposal
@@ -261,33 +293,35 @@ def widening(desk, system):
 def proposal_block(desk, system):
     """The text that waits, with the lines of it that are not in force, and what it would change for whom."""
     if file_of(system) not in desk.proposals:
-        return ""
+        return []
     author, text = desk.proposals[file_of(system)]
-    revision = number(desk.number(file_of(system)) + 1)
     approval = ": another of the custodians has to put the same text" if file_of(system) in desk.guarded() else ""
-    made = '<section class="wait">\n<h4>A proposal waits</h4>\n'
-    made += f"<p>{code(author)} proposes this text as revision {revision}. It is not in force{approval}.</p>\n"
+    proposed = [Code(author), Words(" proposes this text as revision "), Number(desk.number(file_of(system)) + 1)]
+    made = [Alone("ProposalStart"), subheading("A proposal waits"), *paragraph(*proposed, Words(f". It is not in force{approval}."))]
     made += proposed_text(system, desk.texts.get(file_of(system), ""), text)
-    return made + outcome_block(desk, system) + "</section>\n"
+    return [*made, *outcome_block(desk, system), Alone("SectionEnd")]
+
+
+def subheading(words):
+    return In("Subheading", [Words(words)])
 
 
 def outcome_block(desk, system):
     """What a proposal would change; or the fault of the site with it, to which a proposal comes if another file changes while it waits."""
     after, fault = foreseen(desk, system)
-    return changes_block(system, after) if after else f"<p>It cannot be put in force now: {code(fault)}.</p>\n"
+    refused = [Words("It cannot be put in force now: "), Code(fault), Words(".")]
+    return changes_block(system, after) if after else paragraph(*refused)
 
 
 def proposed_text(system, old, text):
     in_force = {part.whole for part in physical_lines(old)}
-    rows = "".join(proposed_row(part, part.whole in in_force) for part in physical_lines(text))
-    caption, label = (f"Proposed text of {name}" for name in (code(system.name), system.name))
-    return table_of(caption, ["Line", "In force?", "Text"], rows, "text", True, label)
+    rows = [proposed_row(part, part.whole in in_force) for part in physical_lines(text)]
+    return table_of(PROPOSED, [Said("Proposed text of "), Named(system.name)], rows)
 
 
 def proposed_row(part, is_in_force):
-    hit, note = ("", "") if is_in_force else (' class="hit"', "<b>not yet</b>")
-    text = f"<td>{note}</td><td><code>{escaped_line(part.whole)}</code></td>"
-    return f'<tr{hit}><th scope="row">{part.number}</th>{text}</tr>\n'
+    note = [] if is_in_force else [Strong("not yet")]
+    return MarkedRow(not is_in_force, PROPOSED, [[Digits(part.number)], note, [Line(part.whole)]])
 
 
 def changes_block(before, after):
@@ -295,21 +329,23 @@ def changes_block(before, after):
     found = [(place, change) for place in places for change in changes(before.site, after.site, place)]
     rows = [change_row(place == places[-1], place, *change) for place, change in found if matters(change)]
     silent = len(found) - len(rows)
-    made = "<p>It would change nothing for any client.</p>\n"
+    made = paragraph(Words("It would change nothing for any client."))
     if rows:
-        made = table("What it would change", ["Directory", "Clients", "Addresses#", "Now", "Then"], rows, "i")
-        made = folded_if_long(made, len(rows), plural(len(rows), "change"))
-    return made + (f"<p>{plural(silent, 'change')} {SILENT}.</p>\n" if silent else "")
+        made = table(CHANGES, [Said("What it would change")], rows)
+        made = folded_if_long(made, len(rows), [Plural(len(rows), "change", "changes")])
+    return made + (paragraph(Plural(silent, "change", "changes"), Words(f" {SILENT}.")) if silent else [])
 
 
 def change_row(are_others, place, first, last, verdicts):
-    name = "other directories" if are_others else code(printed(place))
-    return [name, range_text(first, last), number(last - first + 1), *map(verdict_words, verdicts)]
+    name = Words(OTHERS) if are_others else Code(printed(place))
+    return [[name], [Range(first, last)], [Number(last - first + 1)], *map(verdict_words, verdicts)]
 
 
 def verdict_words(verdict):
     terms = effect(verdict)
-    return f"{terms_badge(terms)} line {named_line(verdict)}: {terms_words(terms)}" if terms else class_badge(0)
+    if not terms:
+        return [class_badge(0)]
+    return [terms_badge(terms), Words(" line "), Digits(named_line(verdict)), Words(": "), Terms(terms)]
 
 
 # ---- all of it
@@ -317,37 +353,34 @@ def verdict_words(verdict):
 
 def revision_words(desk, name):
     if name not in desk.authors:
-        return "no revision"
+        return [Words("no revision")]
     count, author = desk.authors[name]
     approver = desk.approvers.get(name)
-    approved = f", approved by {code(approver)}" if approver else ""
-    return f"revision {number(count)} by {code(author)}{approved}{', of profile 1' if desk.profile(name) == 1 else ''}"
+    approved = [Words(", approved by "), Code(approver)] if approver else []
+    profile = [Words(", of profile 1")] if desk.profile(name) == 1 else []
+    return [Words("revision "), Number(count), Words(" by "), Code(author), *approved, *profile]
 
 
 def facts(desk, system):
     name = file_of(system)
     guarded = "yes: a change of its exports needs two of them" if name in desk.guarded() else "no: each of them may change it alone"
-    found = counts(system.classes, 0, SPACE - 1)
-    rows = [("In force", revision_words(desk, name)), ("Custodians", codes(desk.custodians(name))), ("Guarded", guarded)]
-    rows.append(("May mount some of it", class_parts(found)))
-    made = "".join(f"<div><dt>{term}</dt><dd>{words}</dd></div>\n" for term, words in rows)
-    return f'<dl class="facts">\n{made}</dl>\n'
+    found = class_parts(counts(system.classes, 0, SPACE - 1))
+    return [Facts(FACTS, [revision_words(desk, name), [Codes(desk.custodians(name))], [Words(guarded)], found])]
 
 
-def findings_list(findings):
-    items = "".join(
-        f"<li>{level_mark(one.level)} {line_link(one.system, one.line)}: {finding_words(one)}</li>\n" for one in findings
-    )
-    return f'<ul class="mine">{items}</ul>\n' if findings else ""
+def finding_entry(one):
+    return [level_mark(one.level), Words(" "), link_to(one.system, one.line), Words(": "), *finding_words(one)]
 
 
 def system_section(desk, system, findings):
     text = desk.texts.get(file_of(system), "")
-    made = f'<section class="fs" id="f{system.number}">\n<h3>{code(system.name)}</h3>\n'
-    made += facts(desk, system) + findings_list(findings) + proposal_block(desk, system) + "<h4>Text in force</h4>\n"
+    made = [SystemStart(system.number), In("Heading", [Code(system.name)]), *facts(desk, system)]
+    made += findings_entries(list(map(finding_entry, findings)))
+    made += [*proposal_block(desk, system), subheading("Text in force")]
     count = len(physical_lines(text))
-    made += folded_if_long(text_table(system, text, {one.line for one in findings}), count, plural(count, "line"), OPEN_LINES)
+    lines = text_table(system, text, {one.line for one in findings})
+    made += folded_if_long(lines, count, [Plural(count, "line", "lines")], OPEN_LINES)
     if any(counts(system.classes, 0, SPACE - 1)[1:]):
-        made += "<h4>Where its clients are</h4>\n" + figures(system.classes, True)
-        made += folded("The same in numbers", shares_table(system), True)
-    return made + groups_block(system) + '<p class="up"><a href="#systems">All file systems</a></p>\n</section>\n'
+        made += [subheading("Where its clients are"), *figures(system.classes, True)]
+        made += folded([Words("The same in numbers")], shares_table(system), "OpenFold")
+    return [*made, *groups_block(system), In("Up", [Link("systems", "All file systems")]), Alone("SectionEnd")]
