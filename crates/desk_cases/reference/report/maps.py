@@ -4,7 +4,7 @@ most that some may. A cell is 4 units wide.
 
 from reference.report.data import PRIVATE, READ_ONLY, READ_WRITE, ROOT_KEPT, cells, counts, maps_of, network_ends
 from reference.report.parts import Alone, Drawn, In, Network, Number, PartOf, Plural, Words, items_html
-from reference.report.pieces import class_counts, cut, joined
+from reference.report.pieces import COMMA, class_counts, cut, joined
 from reference.report.text import CLASS_MARKS
 
 # The most maps of a file system, the four that stand there always counted, and of a group of directories.
@@ -98,4 +98,4 @@ def not_drawn(rest):
         return []
     found = [(size, sum(prefix == size for _, prefix in rest)) for size in (8, 16, 24)]
     kinds = [[Plural(count, "network", "networks"), Words(f" /{size}")] for size, count in found if count]
-    return cut(Plural(len(rest), "more map is", "more maps are"), Words(" not drawn: "), *joined(kinds, Words(", ")))
+    return cut(Plural(len(rest), "more map is", "more maps are"), Words(" not drawn: "), *joined(kinds, COMMA))

@@ -8,19 +8,19 @@ from reference.lines import physical_lines
 from reference.readings import FILES, Tables, read_site
 from reference.report.constants import DEFINITIONS, HOW_TO_READ, LEGEND, LINKS
 from reference.report.data import (
-    CHECK, FIRST, NAMING_LINES, PRIVATE, SPACE, FileSystem, counts, findings_of, flavours_of, is_read_only, keeps_root, network_ends, together,
-    union,
+    CHECK, FIRST, NAMING_LINES, PRIVATE, SPACE, FileSystem, counts, findings_of, flavours_of, is_read_only, keeps_root, network_ends,
+    together, union,
 )  # fmt: skip
 from reference.report.maps import small_map
 from reference.report.parts import (
-    Alone, Break, Code, Codes, Count, Digest, Digits, Drawn, Fact, Facts, Fixed, FlavourNames, Flavours, Frame, Head, In, Line, LineLink, Link,
-    Name, Network, NewLine, Number, PartOf, Plain, Plural, Ranges, Said, Small, SmallCount, SmallPlural, Strong, System, SystemLine, Text, Word,
-    Words, Zero, render,
+    Alone, Break, Code, Codes, Count, Digest, Digits, Drawn, Fact, Facts, Fixed, FlavourNames, Flavours, Frame, Head, In, Line,
+    Link, Name, Network, NewLine, Number, PartOf, Plain, Plural, Ranges, Said, Small, SmallCount, SmallPlural, Strong, System, SystemLine,
+    Text, Word, Words, Zero, render,
 )  # fmt: skip
 from reference.report.pieces import (
-    class_badge, class_parts, cut, findings_entries, folded, folded_if_long, joined, level_mark, paragraph, some_of, table,
+    BLANK, COMMA, class_badge, class_parts, cut, findings_entries, folded, folded_if_long, joined, level_mark, paragraph, some_of, table,
 )  # fmt: skip
-from reference.report.systems import file_of, finding_words, network_of, system_section, widening, widest_first
+from reference.report.systems import file_of, finding_words, line_link, network_of, system_section, widening, widest_first
 from reference.report.text import network_text, shell_word
 from reference.sarif import RULES
 from reference.warnings import NAMES, site_warnings
@@ -29,26 +29,7 @@ from reference.warnings import NAMES, site_warnings
 # named in a cell, and lines that write a name, and members of a group; and so many files stand in the open.
 OPEN_FINDINGS, MOST_SHARING, MOST_NETWORKS, MOST_SYSTEMS, MOST_USES, MOST_MEMBERS, OPEN_FILES = 24, 4, 64, 12, 6, 8, 40
 SENTENCES = {number: sentence for group, number, _, sentence in RULES if group == "warning"}
-KINDS_OF_LINES = ["Lines", "Lines for everybody", "Lines that keep root", "Lines without effect"]
-FIGURES = Frame("big", False, [Fact(term) for term in ["File systems", *KINDS_OF_LINES, "Warnings", "Proposals"]])
-FINDINGS = [Name("Level"), Plain("Where"), Plain("What, and the line as written"), Count("Addresses")]
-FLAVOURS = [Name("Flavours"), Plain("In words"), Count("Lines"), Count("without -ro"), Plain("File systems")]
-MAPS = [Plain(words) for words in ["all of IPv4", *(network_text(*network) for network in PRIVATE)]]
-OVERVIEW = [
-    Name("File system"), Plain("At the most"), *MAPS, Count("Addresses"), Plain("Kept by"), Plain("In force"), Plain("Stands out"),
-]  # fmt: skip
-NETWORKS = [Name("Network"), Count("Addresses"), Plain("All of it, alike"), Plain("Parts of it, and how many addresses")]
-WARNINGS = [Name("File"), Plain("Line"), Plain("Word"), Plain("Name"), Plain("What it means")]
-NETGROUPS = [
-    Name("Name"), Count("Line"), Plain("Hosts and groups in it"), Count("Host names"), Count("Addresses"), Plain("Stands for"),
-    Plain("Written by"),
-]  # fmt: skip
-HOSTS = [Name("Name"), Plain("It is"), Count("Addresses"), Plain("Stands for"), Plain("Written by")]
-FILES_COLUMNS = [
-    Name("File"), Count("Revision"), Plain("Author"), Plain("Approver"), Plain("Profile"), Count("Bytes"), Plain("SHA-256 of the text"),
-    Plain("Remark"),
-]  # fmt: skip
-COMMA, BLANK, DASH = Words(", "), Words(" "), [Words("-")]
+DASH = [Words("-")]
 
 
 class Report:
@@ -107,6 +88,10 @@ def sha256(text):
 # ---- the summary
 
 
+KINDS_OF_LINES = ["Lines", "Lines for everybody", "Lines that keep root", "Lines without effect"]
+FIGURES = Frame("big", False, [Fact(term) for term in ["File systems", *KINDS_OF_LINES, "Warnings", "Proposals"]])
+
+
 def key_figures(report):
     everybody = [line for _, line in report.granting() if is_for_all(line)]
     root = [line for _, line in report.granting() if keeps_root(line.terms)]
@@ -148,11 +133,15 @@ def proposals_list(report):
 def proposal_entry(desk, system, count):
     author, _ = desk.proposals[file_of(system)]
     words = [Code(author), Words(" proposes that clients may do more: "), Plural(count, "change", "changes")]
-    return [level_mark(FIRST), BLANK, link_to(system), Words(": "), *words]
+    return [level_mark(FIRST), BLANK, system_link(system), Words(": "), *words]
 
 
-def link_to(system):
+def system_link(system):
     return System(system.number, system.name)
+
+
+COLUMNS = [Name("Level"), Plain("Where"), Plain("What, and the line as written"), Count("Addresses")]
+FINDINGS, MORE_FINDINGS = Frame("f", False, COLUMNS), Frame("f", True, COLUMNS)
 
 
 def findings_tables(report):
@@ -165,11 +154,11 @@ def findings_tables(report):
     for found in sorted(report.findings, key=order):
         shared.setdefault(told_alike(found), []).append(found)
     rows = [finding_row(report, lines) for lines in shared.values()]
-    made = table(Frame("f", False, FINDINGS), [Said("Lines that stand out")], rows[:OPEN_FINDINGS])
+    made = table(FINDINGS, [Said("Lines that stand out")], rows[:OPEN_FINDINGS])
     rest = rows[OPEN_FINDINGS:]
     if not rest:
         return made
-    more = table(Frame("f", True, FINDINGS), [Said("More lines that stand out")], rest)
+    more = table(MORE_FINDINGS, [Said("More lines that stand out")], rest)
     return made + folded([Plural(len(rest), "more row", "more rows")], more)
 
 
@@ -180,18 +169,21 @@ def told_alike(found):
     if kind != "names":
         return found.system.number, found.line
     names_lines = any(words in NAMING_LINES for _, words in found.words)
-    reasons = found.system.number if names_lines else None, *finding_words(found)
-    return tuple(clients[0]), found.terms, found.count, reasons
+    reasons = tuple(finding_words(found))
+    return tuple(clients[0]), found.terms, found.count, reasons, found.system.number if names_lines else None
 
 
 def finding_row(report, lines):
     """The row of lines that are told alike: where the first of them stand, and the text of the first of all."""
     found = lines[0]
     text = physical_lines(report.desk.texts[file_of(found.system)])[found.line - 1].whole
-    where = [[link_to(one.system), BLANK, LineLink(one.system.number, one.line)] for one in lines]
+    where = [[system_link(one.system), BLANK, line_link(one.system, one.line)] for one in lines]
     shared = [Break(), Number(len(lines)), Words(" lines for the same names, the first of them:")] if len(lines) > 1 else []
     what = [*finding_words(found), *shared, Break(), Line(text)]
     return [[level_mark(found.level)], some_of(where, MOST_SHARING, Break()), what, [PartOf(found.count, SPACE)]]
+
+
+FLAVOURS = Frame("a", True, [Name("Flavours"), Plain("In words"), Count("Lines"), Count("without -ro"), Plain("File systems")])
 
 
 def flavours_table(report):
@@ -201,14 +193,19 @@ def flavours_table(report):
         found.setdefault(tuple(flavours_of(line.terms)), []).append((system, line))
     rows = []
     for flavours, lines in sorted(found.items(), key=lambda item: (-len(item[1]), item[0])):
-        systems = dict.fromkeys(link_to(system) for system, _ in lines)
+        systems = dict.fromkeys(system_link(system) for system, _ in lines)
         writable = sum(not is_read_only(line.terms) for _, line in lines)
         counted = [[Number(len(lines))], [Number(writable)]]
         rows.append([[FlavourNames(flavours)], [Flavours(flavours)], *counted, some_of([[one] for one in systems], MOST_SYSTEMS)])
-    return table(Frame("a", True, FLAVOURS), [Said("Security flavours of the lines that grant")], rows)
+    return table(FLAVOURS, [Said("Security flavours of the lines that grant")], rows)
 
 
 # ---- the file systems, and the networks
+
+
+MAPS = [Plain(words) for words in ["all of IPv4", *(network_text(*network) for network in PRIVATE)]]
+BEHIND_MAPS = [Count("Addresses"), Plain("Kept by"), Plain("In force"), Plain("Stands out")]
+OVERVIEW = Frame("o", False, [Name("File system"), Plain("At the most"), *MAPS, *BEHIND_MAPS])
 
 
 def overview(report):
@@ -216,7 +213,7 @@ def overview(report):
     rows = [[[Strong("any of them")], *classes_cells(together(report.systems)), [], [], []]]
     rows += [system_row(report, system) for system in report.systems]
     caption = "The file systems, and where the clients are that may mount some directory of them"
-    return table(Frame("o", False, OVERVIEW), [Said(caption)], rows)
+    return table(OVERVIEW, [Said(caption)], rows)
 
 
 def classes_cells(classes):
@@ -235,11 +232,15 @@ def system_row(report, system):
     revision += marked(name in desk.proposals, "proposal waits")
     levels = [found.level for found in report.findings_in(system)]
     counted = joined([[Number(levels.count(level)), Words(f" {level}")] for level in (FIRST, CHECK) if level in levels], COMMA)
-    return [[link_to(system)], *classes_cells(system.classes), kept, revision, counted or [Zero("nothing")]]
+    return [[system_link(system)], *classes_cells(system.classes), kept, revision, counted or [Zero("nothing")]]
 
 
 def marked(is_so, words):
     return [BLANK, Strong(words)] if is_so else []
+
+
+PARTLY = Plain("Parts of it, and how many addresses")
+NETWORKS = Frame("p", False, [Name("Network"), Count("Addresses"), Plain("All of it, alike"), PARTLY])
 
 
 def networks_table(report):
@@ -253,7 +254,7 @@ def networks_table(report):
     more = [Plural(rest, "more network is", "more networks are"), Words(" not listed, none of them wider")]
     words = "The networks that lines write, but for /0 and those of IPv6, the widest first, and what their addresses may mount at the most,"
     made = paragraph(Words(f"{words} on some directory of each file system."))
-    made += table(Frame("p", False, NETWORKS), [Said("What the networks may mount that lines write")], rows)
+    made += table(NETWORKS, [Said("What the networks may mount that lines write")], rows)
     return made + (cut(*more) if rest > 0 else [])
 
 
@@ -263,9 +264,9 @@ def network_row(report, first, prefix):
         found = counts(system.classes, *network_ends(first, prefix))
         values = [value for value in (3, 2, 1) if found[value]]
         if values and found[values[0]] == whole:
-            alike.append([link_to(system), BLANK, class_badge(values[0])])
+            alike.append([system_link(system), BLANK, class_badge(values[0])])
         elif values:
-            parts.append([link_to(system), BLANK, *class_parts(found)])
+            parts.append([system_link(system), BLANK, *class_parts(found)])
     return [[Network(first, prefix)], [Number(whole)], systems_cell(alike, Words("; ")), systems_cell(parts, Break())]
 
 
@@ -279,15 +280,18 @@ def systems_cell(told, between):
 # ---- warnings, names, files
 
 
+WARNINGS = Frame("", True, [Name("File"), Plain("Line"), Plain("Word"), Plain("Name"), Plain("What it means")])
+
+
 def warnings_table(report):
     if not report.warnings:
         return paragraph(Words("No word has a warning."))
-    numbers = {file_of(system): system.number for system in report.systems}
+    systems = {file_of(system): system for system in report.systems}
     rows = []
     for name, line, kind, word in report.warnings:
-        where = [LineLink(numbers[name], line)] if name in numbers else [Words("line "), Digits(line)]
+        where = [line_link(systems[name], line)] if name in systems else [Words("line "), Digits(line)]
         rows.append([[Code(name)], where, [Code(word)], [Words(NAMES[kind])], [Words(SENTENCES[kind])]])
-    made = table(Frame("", True, WARNINGS), [Said("Warnings about words")], rows)
+    made = table(WARNINGS, [Said("Warnings about words")], rows)
     return folded_if_long(made, len(rows), [Plural(len(rows), "warning", "warnings")])
 
 
@@ -309,6 +313,11 @@ def addresses_cell(addresses):
     return [Ranges(union((address, address) for address in addresses)) if addresses else Strong("nobody")]
 
 
+USED = [Count("Addresses"), Plain("Stands for"), Plain("Written by")]
+NETGROUPS = Frame("n", True, [Name("Name"), Count("Line"), Plain("Hosts and groups in it"), Count("Host names"), *USED])
+HOSTS = Frame("n", True, [Name("Name"), Plain("It is"), *USED])
+
+
 def netgroups_table(report):
     site, lines = report.site, report.tables.group_lines
     if not site.groups:
@@ -320,7 +329,7 @@ def netgroups_table(report):
         hosts = hosts_of(site, group, len(site.groups))
         cells = [[Code(group)], [Number(lines[group])], some_of(written, MOST_MEMBERS) if written else DASH, [Number(len(hosts))]]
         rows.append([*cells, [Number(len(addresses))], addresses_cell(addresses), uses_cell(report, group)])
-    made = table(Frame("n", True, NETGROUPS), [Said("Netgroups")], rows)
+    made = table(NETGROUPS, [Said("Netgroups")], rows)
     return folded_if_long(made, len(rows), [Plural(len(rows), "netgroup", "netgroups")])
 
 
@@ -331,7 +340,7 @@ def hosts_table(report):
     rows = [host_row(report, name) for name in sorted(names, key=lambda name: name.encode())]
     if not rows:
         return []
-    made = table(Frame("n", True, HOSTS), [Said("Names of hosts that lines write")], rows)
+    made = table(HOSTS, [Said("Names of hosts that lines write")], rows)
     return folded_if_long(made, len(rows), [Plural(len(rows), "name", "names")])
 
 
@@ -341,10 +350,14 @@ def host_row(report, name):
     return [[Code(name)], [Words(kind)], [Number(len(found))], addresses_cell(found), uses_cell(report, name)]
 
 
+REVISION = [Count("Revision"), Plain("Author"), Plain("Approver"), Plain("Profile"), Count("Bytes"), Plain("SHA-256 of the text")]
+ALL_FILES = Frame("h", True, [Name("File"), *REVISION, Plain("Remark")])
+
+
 def files_table(report):
     desk = report.desk
     rows = [file_row(report, name) for name in desk.files() if name in desk.authors or name in desk.proposals]
-    made = table(Frame("h", True, FILES_COLUMNS), [Said("Files and their newest revisions")], rows)
+    made = table(ALL_FILES, [Said("Files and their newest revisions")], rows)
     return folded_if_long(made, len(rows), [Plural(len(rows), "file", "files")], OPEN_FILES)
 
 

@@ -1,6 +1,7 @@
 """The parts and blocks of the page by value, and what they come to as HTML: written from the definitions of page_html (`Items.antt`,
 `Titles.antt`, `Tables.antt`, `Blocks.antt`, `Pages.antt`, and what these name). Here, and nowhere else, texts are escaped and tags are
-written, but for the fixed texts of constants.py and the images of maps.py. (There is no part for nothing: none stands in its place.)
+written, but for the fixed texts of constants.py and the images of maps.py. (Where the definitions have the part Nothing, no part stands;
+and no page has SomeCodes.)
 """
 
 import base64
@@ -58,7 +59,6 @@ Text = kind("Text", "text")
 Code = kind("Code", "text")
 Digest = kind("Digest", "text")
 Codes = kind("Codes", "texts")
-SomeCodes = kind("SomeCodes", "most", "texts")
 Line = kind("Line", "line")
 System = kind("System", "system", "name")
 SystemLine = kind("SystemLine", "system", "name", "line")
@@ -166,10 +166,6 @@ def code_list(texts):
     return ", ".join(map(code, texts))
 
 
-def some_codes(most, texts):
-    return code_list(texts[:most]) + more(max(len(texts) - most, 0))
-
-
 # ---- amounts
 
 
@@ -178,9 +174,9 @@ def plural(count, one, several):
 
 
 def part_of(count, whole):
-    """How much of a whole: none, all, all but a number, or a number."""
-    if count in (0, whole):
-        return "none" if count == 0 else "all"
+    """How much of a whole: none, all, all but a number, or a number. One that is larger counts as the whole."""
+    if count == 0 or count >= whole:
+        return "all" if count and whole else "none"
     return f"all&nbsp;but&nbsp;{number(whole - count)}" if count > whole // 2 else number(count)
 
 
@@ -265,7 +261,6 @@ PARTS_HTML = {
     Code: code,
     Digest: lambda text: f'<code class="sha">{escaped(text)}</code>',
     Codes: code_list,
-    SomeCodes: some_codes,
     Line: lambda line: f"<code>{escaped_line(line)}</code>",
     System: system_link,
     SystemLine: system_line,
@@ -369,7 +364,7 @@ BLOCKS_HTML = {
     In: element_html,
     Alone: TAGS.__getitem__,
     SystemStart: lambda system: f'<section class="fs" id="f{system}">\n',
-    Fixed: lambda html: html,
+    Fixed: lambda text: text,
 }
 
 

@@ -6,6 +6,7 @@ from reference.report.text import CLASS_MARKS, CLASS_WORDS
 
 # How many rows stand in the open.
 OPEN_ROWS = 24
+COMMA, BLANK = Words(", "), Words(" ")
 
 
 # ---- blocks
@@ -53,7 +54,7 @@ def joined(lists, between):
     return found
 
 
-def some_of(lists, most, between=Words(", ")):
+def some_of(lists, most, between=COMMA):
     """The parts of so many of the lists, and how many more there are."""
     return [*joined(lists[:most], between), AndMore(max(len(lists) - most, 0))]
 
@@ -81,4 +82,4 @@ def class_counts(found):
 
 
 def of_classes(found, told):
-    return joined([told(value) for value in (3, 2, 1) if found[value]], Words(", ")) or [Words("nobody")]
+    return joined([told(value) for value in (3, 2, 1) if found[value]], COMMA) or [Words("nobody")]

@@ -1,6 +1,6 @@
 """The part of the report on one file system."""
 
-from reference.definitions import changes, contradiction, dotted, effect, fault_text, matters, printed
+from reference.definitions import changes, contradiction, effect, fault_text, matters, printed
 from reference.idle import is_for_all
 from reference.lines import logical_lines, physical_lines, words_of
 from reference.readings import Fault, read_site
@@ -9,12 +9,12 @@ from reference.report.data import (
 )  # fmt: skip
 from reference.report.maps import figures
 from reference.report.parts import (
-    Alone, AndMore, Code, Codes, Count, Digits, Fact, Facts, Frame, Further, In, Line, LineLink, LineRow, Link, MarkedRow, Name, Named, Network,
-    Number, PartOf, Plain, Plural, Range, Ranges, Said, SmallPercent, Strong, SystemStart, Terms, Word, Words, Zero,
+    Alone, AndMore, Code, Codes, Count, Digits, Fact, Facts, Frame, Further, In, Line, LineLink, LineRow, Link, MarkedRow, Name, Named,
+    Network, Number, PartOf, Plain, Plural, Range, Ranges, Said, SmallPercent, Strong, SystemStart, Terms, Word, Words, Zero,
 )  # fmt: skip
 from reference.report.pieces import (
-    class_badge, class_parts, cut, findings_entries, folded, folded_if_long, joined, level_mark, paragraph, some_of, table, table_of,
-    terms_badge,
+    BLANK, COMMA, class_badge, class_parts, cut, findings_entries, folded, folded_if_long, joined, level_mark, paragraph, some_of, table,
+    table_of, terms_badge,
 )  # fmt: skip
 from reference.why import named_line
 
@@ -31,13 +31,6 @@ SILENT = (
     " of a denial, is another"
 )
 
-FACTS = Frame("facts", False, [Fact("In force"), Fact("Custodians"), Fact("Guarded"), Fact("May mount some of it")])
-TEXT = Frame("text", False, [Name("Line"), Plain("It grants"), Count("to addresses"), Plain("Text")])
-PROPOSED = Frame("text", False, [Name("Line"), Plain("In force?"), Plain("Text")])
-CHANGES = Frame("i", True, [Name("Directory"), Plain("Clients"), Count("Addresses"), Plain("Now"), Plain("Then")])
-VERDICTS = Frame("v", False, [Name("Verdict"), Plain("Clients"), Count("Addresses"), Plain("By, and on what terms")])
-SHARES = Frame("s", True, [Name("Network"), *map(Count, ["has", "read-only", "read-write", "root kept", "may mount"])])
-
 
 def file_of(system):
     return f"exports:{system.name}"
@@ -50,10 +43,10 @@ def finding_words(finding):
     """The words of a finding, with the lines that decide in place of one that never does, and with what mountd(8) does."""
     told = {"never decides": deciding_words, GRANTS_MORE: wider_words, LEFT_OUT: repeated_words}
     reasons = [told[words](finding) if words in told else [Words(words)] for _, words in finding.words]
-    return joined(reasons, Words(", "))
+    return joined(reasons, COMMA)
 
 
-def link_to(system, line):
+def line_link(system, line):
     return LineLink(system.number, line)
 
 
@@ -64,19 +57,19 @@ def address_alone(address):
 def wider_words(finding):
     other, address, directory = finding.system.wider[finding.line]
     listed = [Code(printed(directory)), Words(" too")] if directory is not None else EVERY_DIRECTORY
-    found = [address_alone(address), Words(" "), link_to(finding.system, other)]
+    found = [address_alone(address), BLANK, line_link(finding.system, other)]
     return [Words(f"{GRANTS_MORE}: to "), *found, Words(" lists "), *listed]
 
 
 def repeated_words(finding):
     other, address = finding.system.repeated[finding.line]
-    return [Words(f"{LEFT_OUT}: "), link_to(finding.system, other), Words(" has "), address_alone(address)]
+    return [Words(f"{LEFT_OUT}: "), line_link(finding.system, other), Words(" has "), address_alone(address)]
 
 
 def deciding_words(finding):
     system = finding.system
     line = next(line for line in system.lines if line.number == finding.line)
-    others = [[link_to(system, other)] for other in system.deciding(line)]
+    others = [[line_link(system, other)] for other in system.deciding(line)]
     decide = "decides" if len(others) == 1 else "decide"
     return [Words("never decides: "), *some_of(others, MOST_DECIDING), Words(f" {decide} for all its clients")]
 
@@ -88,8 +81,11 @@ def line_note(system, line):
     """What a line does, and to how many addresses it grants something."""
     if system.decides_nothing(line):
         return [Strong("matches nobody" if system.matches_nobody(line) else "never decides")], []
-    everybody = [Words(" "), Strong("everybody")] if is_for_all(line) else []
+    everybody = [BLANK, Strong("everybody")] if is_for_all(line) else []
     return [terms_badge(line.terms), *everybody], [Number(size_of(system.grants[line.number]))]
+
+
+TEXT = Frame("text", False, [Name("Line"), Plain("It grants"), Count("to addresses"), Plain("Text")])
 
 
 def text_table(system, text, marked):
@@ -122,7 +118,6 @@ def verdict_rows(system, group):
     if len(denied) > MOST_REASONS:
         ranges = [found for verdict in denied for found in by_verdict[verdict]]
         reason = "no line matches them, or those that match them best list none of these"
-        reason = "no line matches them, or those that match them best list none of these"
         return [*rows, denial([EVERYBODY_ELSE], ranges, [Words(reason)])], len(granted)
     return rows + [denied_row(system, verdict, by_verdict[verdict]) for verdict in denied], len(granted)
 
@@ -134,7 +129,7 @@ def denial_order(verdict):
 
 def granted_row(system, verdict, ranges):
     terms = effect(verdict)
-    by = [link_to(system, named_line(verdict)), Words(": "), Terms(terms)]
+    by = [line_link(system, named_line(verdict)), Words(": "), Terms(terms)]
     return [[terms_badge(terms)], [Ranges(ranges)], [amount(ranges)], by]
 
 
@@ -142,7 +137,7 @@ def denied_row(system, verdict, ranges):
     line = named_line(verdict)
     if line is None:
         return denial([EVERYBODY_ELSE], ranges, [Words("no line matches them")])
-    return denial([Ranges(ranges)], ranges, [link_to(system, line), Words(" matches them best, but lists none of these")])
+    return denial([Ranges(ranges)], ranges, [line_link(system, line), Words(" matches them best, but lists none of these")])
 
 
 def denial(clients, ranges, reason):
@@ -167,7 +162,7 @@ def group_title(system, group, most):
 
 
 def shown(part):
-    """A part of a title where it is no title."""
+    """A part of a title in a heading."""
     return {Said: Words, Named: Code, Further: AndMore}[type(part)](*vars(part).values())
 
 
@@ -193,7 +188,10 @@ def openings_block(system, group):
 
 def opening_words(system, address, place, denied, line):
     what = [Words(OTHERS) if place == system.other else Code(printed(place)), Words(" to "), address_alone(address)]
-    return [*what, Words(" by "), link_to(system, line), Words(" (denied here by "), link_to(system, denied), Words(")")]
+    return [*what, Words(" by "), line_link(system, line), Words(" (denied here by "), line_link(system, denied), Words(")")]
+
+
+VERDICTS = Frame("v", False, [Name("Verdict"), Plain("Clients"), Count("Addresses"), Plain("By, and on what terms")])
 
 
 def verdict_table(system, group):
@@ -227,6 +225,9 @@ def groups_block(system):
 
 
 # ---- where its clients are
+
+
+SHARES = Frame("s", True, [Name("Network"), *map(Count, ["has", "read-only", "read-write", "root kept", "may mount"])])
 
 
 def shares_table(system):
@@ -264,7 +265,7 @@ def share_row(system, name, ranges):
     by_class = [sum(found) for found in zip(*(counts(system.classes, *ends) for ends in ranges))]
     whole, some = size_of(ranges), sum(by_class[1:])
     counted = [[Number(count) if count else Zero("0")] for count in by_class[1:]]
-    return [[name], [Number(whole)], *counted, [PartOf(some, whole), Words(" "), SmallPercent(some, whole)]]
+    return [[name], [Number(whole)], *counted, [PartOf(some, whole), BLANK, SmallPercent(some, whole)]]
 
 
 # ---- a proposal
@@ -313,6 +314,9 @@ def outcome_block(desk, system):
     return changes_block(system, after) if after else paragraph(*refused)
 
 
+PROPOSED = Frame("text", False, [Name("Line"), Plain("In force?"), Plain("Text")])
+
+
 def proposed_text(system, old, text):
     in_force = {part.whole for part in physical_lines(old)}
     rows = [proposed_row(part, part.whole in in_force) for part in physical_lines(text)]
@@ -322,6 +326,9 @@ def proposed_text(system, old, text):
 def proposed_row(part, is_in_force):
     note = [] if is_in_force else [Strong("not yet")]
     return MarkedRow(not is_in_force, PROPOSED, [[Digits(part.number)], note, [Line(part.whole)]])
+
+
+CHANGES = Frame("i", True, [Name("Directory"), Plain("Clients"), Count("Addresses"), Plain("Now"), Plain("Then")])
 
 
 def changes_block(before, after):
@@ -361,6 +368,9 @@ def revision_words(desk, name):
     return [Words("revision "), Number(count), Words(" by "), Code(author), *approved, *profile]
 
 
+FACTS = Frame("facts", False, [Fact("In force"), Fact("Custodians"), Fact("Guarded"), Fact("May mount some of it")])
+
+
 def facts(desk, system):
     name = file_of(system)
     guarded = "yes: a change of its exports needs two of them" if name in desk.guarded() else "no: each of them may change it alone"
@@ -369,7 +379,7 @@ def facts(desk, system):
 
 
 def finding_entry(one):
-    return [level_mark(one.level), Words(" "), link_to(one.system, one.line), Words(": "), *finding_words(one)]
+    return [level_mark(one.level), BLANK, line_link(one.system, one.line), Words(": "), *finding_words(one)]
 
 
 def system_section(desk, system, findings):

@@ -28,7 +28,7 @@ def number(count):
 
 def percent(count, whole):
     """Rounded down to 0.0001, but never to 0 for a part."""
-    if count == whole:
+    if count >= whole:
         return "100 %"
     parts = count * 1000000 // whole
     if parts == 0:
