@@ -21,20 +21,21 @@ use Rattle.page_data.specs.Server.{AreServerReasons, IsRepeatedOf, IsWiderOf, se
 use Rattle.page_data.specs.Unique.{Another, GrantsMore, ReasonValue, ReasonsAreUnique, ReasonsValue, WiderValue, reason_value, reasons_value, wider_value}
 use Rattle.page_data.specs.declared.lines.LineReasons.{LineReasons}
 use Rattle.page_data.specs.declared.reasons.Reason.{Reason}
-use Rattle.page_data.specs.declared.reasons.Reason.TheVariants.{NoClient, NeverDecides, ForEverybodyReadOnly, ForEverybodyReadWrite, Wide, RootKeptForNetworks, RootKeptForNames, ServerGrantsMore, RepeatedClient}
+use Rattle.page_data.specs.declared.reasons.Reason.TheVariants.{ServerGrantsMore, RepeatedClient}
 use Rattle.page_data.proofs.GrantsNothing.{counts_none, idle_lines_grant_nothing, named_by}
 use Rattle.page_data.proofs.OneOrder.{each_by_value}
 use Rattle.page_data.proofs.Selecting.{one_by_number}
 use Rattle.page_data.proofs.UniqueCounts.{one_amount}
 
 -- ---- what is the same of reasons that are the same by value
-abbrev path_kept : List (List ℕ) → Bor (List (List ℕ))
+abbrev pub path_kept : List (List ℕ) → Bor (List (List ℕ))
 path_kept path = record { ref_ptr = (0, 0); now = path }
 
-abbrev wider_kept : WiderValue → WiderGrant
+abbrev pub wider_kept : WiderValue → WiderGrant
 wider_kept value = record { line = value.line; address = value.address; other = value.other; directory = option_map path_kept value.directory }
 
-abbrev reason_kept : ReasonValue → Reason
+-- a reason made again of its value
+abbrev pub reason_kept : ReasonValue → Reason
 reason_kept (GrantsMore value) = ServerGrantsMore (wider_kept value)
 reason_kept (Another reason) = reason
 
@@ -46,17 +47,10 @@ same_copied None = refl
 same_copied (Some path) = refl
 
 module _ {B : Type 0} (f : Reason → B) (alike : (found other : WiderGrant) → wider_value found ≡ wider_value other → f (ServerGrantsMore found) ≡ f (ServerGrantsMore other)) where
-  by_kept : (reason : Reason) → f reason ≡ f (reason_kept (reason_value reason))
-  by_kept NoClient = refl
-  by_kept NeverDecides = refl
-  by_kept ForEverybodyReadOnly = refl
-  by_kept ForEverybodyReadWrite = refl
-  by_kept Wide = refl
-  by_kept RootKeptForNetworks = refl
-  by_kept RootKeptForNames = refl
+  pub by_kept : (reason : Reason) → f reason ≡ f (reason_kept (reason_value reason))
   by_kept (ServerGrantsMore found) =
       alike found (wider_kept (wider_value found)) (ap (λ (directory : Option (List (List ℕ))). wider_with found.line found.address found.other directory) (same_copied found.directory))
-  by_kept (RepeatedClient found) = refl
+  by_kept reason = refl
 
   pub same_by_value : (reason other : Reason) → reason_value reason ≡ reason_value other → f reason ≡ f other
   same_by_value reason other same = by_kept reason ∙ ap (λ (value : ReasonValue). f (reason_kept value)) same ∙ sym (by_kept other)

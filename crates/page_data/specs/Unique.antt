@@ -30,7 +30,7 @@ use Rattle.page_data.specs.declared.grants.LineGrants.{LineGrants}
 use Rattle.page_data.specs.declared.lines.LineReasons.{LineReasons}
 use Rattle.page_data.specs.declared.opening.Opening.{Opening}
 use Rattle.page_data.specs.declared.reasons.Reason.{Reason}
-use Rattle.page_data.specs.declared.reasons.Reason.TheVariants.{NoClient, NeverDecides, ForEverybodyReadOnly, ForEverybodyReadWrite, Wide, RootKeptForNetworks, RootKeptForNames, ServerGrantsMore, RepeatedClient}
+use Rattle.page_data.specs.declared.reasons.Reason.TheVariants.{ServerGrantsMore}
 
 -- ---- reasons by value
 -- what the server grants more, with the path of the directory, wherever that is kept
@@ -49,15 +49,8 @@ pub data ReasonValue : Type 0 where
   Another : Reason → ReasonValue
 
 abbrev pub reason_value : Reason → ReasonValue
-reason_value NoClient = Another NoClient
-reason_value NeverDecides = Another NeverDecides
-reason_value ForEverybodyReadOnly = Another ForEverybodyReadOnly
-reason_value ForEverybodyReadWrite = Another ForEverybodyReadWrite
-reason_value Wide = Another Wide
-reason_value RootKeptForNetworks = Another RootKeptForNetworks
-reason_value RootKeptForNames = Another RootKeptForNames
 reason_value (ServerGrantsMore found) = GrantsMore (wider_value found)
-reason_value (RepeatedClient found) = Another (RepeatedClient found)
+reason_value reason = Another reason
 
 -- a line with its reasons, by value
 pub record ReasonsValue : Type 0 where

@@ -6,12 +6,12 @@ use Rattle.std.proofs.lemmas.List.{length-map}
 use Rattle.std.proofs.lemmas.List.Folds.{flat_map-map}
 use Rattle.desk_text.specs.Lines.{LogicalLine, logical_lines}
 use Rattle.desk_exports.specs.Laws.{takes_part}
-use Rattle.desk_server.specs.declared.wider_grant.WiderGrant.{WiderGrant}
 use Rattle.page_data.specs.Reasons.{is_first, level_of_all}
-use Rattle.page_data.specs.Unique.{Another, GrantsMore, ReasonValue, WiderValue, reason_value}
+use Rattle.page_data.specs.Unique.{reason_value}
 use Rattle.page_data.specs.declared.reasons.Level.TheVariants.{Check, LookFirst}
 use Rattle.page_data.specs.declared.reasons.Reason.{Reason}
-use Rattle.page_data.specs.declared.reasons.Reason.TheVariants.{NoClient, NeverDecides, ForEverybodyReadOnly, ForEverybodyReadWrite, Wide, RootKeptForNetworks, RootKeptForNames, ServerGrantsMore, RepeatedClient}
+use Rattle.page_data.specs.declared.reasons.Reason.TheVariants.{ServerGrantsMore}
+use Rattle.page_data.proofs.UniqueReasons.{by_kept, path_kept, reason_kept}
 use Rattle.page_findings.specs.Badges.{level_item}
 use Rattle.page_findings.specs.FindingWords.{finding_items, listed, only, reason_items}
 use Rattle.page_findings.specs.Joining.{comma, joined}
@@ -24,7 +24,7 @@ use Rattle.page_html.specs.Items.{Item, LineLink, Own, Range, Words}
 use Rattle.page_html.specs.declared.blocks.Element.TheVariants.{Entry}
 use Rattle.page_html.specs.declared.blocks.Tag.TheVariants.{FindingsStart, ListEnd}
 use Rattle.page_filesystem.specs.Findings.{entries, entry, findings_list}
-use Rattle.page_filesystem.specs.Notes.{line_at, logical_line_note, not_read, notes_of, said_for, site_line_note}
+use Rattle.page_filesystem.specs.Notes.{line_at, logical_line_note, not_read, notes_of, said_by, said_for, site_line_note}
 use Rattle.page_filesystem.specs.UniqueLaws.{KnownFinding, known_finding}
 use Rattle.page_filesystem.specs.declared.gutter.Note.{Note}
 
@@ -33,37 +33,18 @@ abbrev lend : {T : Type 0} → T → Bor T
 lend x = record { ref_ptr = (0, 0); now = x }
 
 -- ---- reasons
-abbrev directory_again : Option (List (List ℕ)) → Option (Bor (List (List ℕ)))
-directory_again None = None
-directory_again (Some path) = Some (lend path)
-
-abbrev wider_again : WiderValue → WiderGrant
-wider_again found = record { line = found.line; address = found.address; other = found.other; directory = directory_again found.directory }
-
-abbrev reason_again : ReasonValue → Reason
-reason_again (GrantsMore found) = ServerGrantsMore (wider_again found)
-reason_again (Another reason) = reason
-
 abbrev again : Reason → Reason
-again reason = reason_again (reason_value reason)
+again reason = reason_kept (reason_value reason)
 
 abbrev all_again : List Reason → List Reason
-all_again reasons = map reason_again (map reason_value reasons)
+all_again reasons = map reason_kept (map reason_value reasons)
 
-copied_again : (directory : Option (List (List ℕ))) → option_copied (directory_again directory) ≡ directory
+copied_again : (directory : Option (List (List ℕ))) → option_copied (option_map path_kept directory) ≡ directory
 copied_again None = refl
 copied_again (Some path) = refl
 
 first_again : (reason : Reason) → is_first reason ≡ is_first (again reason)
-first_again NoClient = refl
-first_again NeverDecides = refl
-first_again ForEverybodyReadOnly = refl
-first_again ForEverybodyReadWrite = refl
-first_again Wide = refl
-first_again RootKeptForNetworks = refl
-first_again RootKeptForNames = refl
-first_again (ServerGrantsMore found) = refl
-first_again (RepeatedClient found) = refl
+first_again reason = by_kept is_first (λ found other same. refl) reason
 
 some_first : (reasons : List Reason) → list_any is_first reasons ≡ list_any is_first (all_again reasons)
 some_first [] = refl
@@ -71,25 +52,17 @@ some_first (reason ∷ reasons) = λ i. first_again reason i || some_first reaso
 
 -- ---- lines
 abbrev line_again : KnownLine → LineValue
-line_again line = record { fs = line.fs; row = line.row; count = line.count; reasons = map reason_again line.reasons }
+line_again line = record { fs = line.fs; row = line.row; count = line.count; reasons = map reason_kept line.reasons }
 
 abbrev lines_again : List LineValue → List LineValue
 lines_again lines = map line_again (map known_line lines)
 
 said_again : (line : LineValue) (reasons : List Reason) → said_for line reasons ≡ said_for (line_again (known_line line)) (all_again reasons)
 said_again line [] = refl
-said_again line (NoClient ∷ reasons) = refl
-said_again line (NeverDecides ∷ reasons) = refl
-said_again line (ForEverybodyReadOnly ∷ reasons) = refl
-said_again line (ForEverybodyReadWrite ∷ reasons) = refl
-said_again line (Wide ∷ reasons) = refl
-said_again line (RootKeptForNetworks ∷ reasons) = refl
-said_again line (RootKeptForNames ∷ reasons) = refl
-said_again line (ServerGrantsMore found ∷ reasons) = refl
-said_again line (RepeatedClient found ∷ reasons) = refl
+said_again line (reason ∷ reasons) = by_kept (said_by line) (λ found other same. refl) reason
 
 many_again : (reasons : List Reason) → length reasons ≡ length (all_again reasons)
-many_again reasons = sym (length-map (map reason_value reasons) reason_again ∙ length-map reasons reason_value)
+many_again reasons = sym (length-map (map reason_value reasons) reason_kept ∙ length-map reasons reason_value)
 
 note_again : (line : LineValue) → site_line_note line ≡ site_line_note (line_again (known_line line))
 note_again line = λ i. record {
@@ -122,7 +95,7 @@ abbrev finding_again : KnownFinding → Finding
 finding_again finding = record {
   fs = record { 0 = finding.fs };
   line = finding.line;
-  reasons = lend (map reason_again finding.reasons);
+  reasons = lend (map reason_kept finding.reasons);
   terms = lend finding.terms;
   is_for_network = finding.is_for_network;
   deciding = lend finding.deciding;
@@ -132,17 +105,10 @@ abbrev same_finding : Finding → Finding
 same_finding finding = finding_again (known_finding finding)
 
 items_again : (finding : Finding) (reason : Reason) → reason_items finding reason ≡ reason_items (same_finding finding) (again reason)
-items_again finding NoClient = refl
-items_again finding NeverDecides = refl
-items_again finding ForEverybodyReadOnly = refl
-items_again finding ForEverybodyReadWrite = refl
-items_again finding Wide = refl
-items_again finding RootKeptForNetworks = refl
-items_again finding RootKeptForNames = refl
 items_again finding (ServerGrantsMore found) = λ i.
     Own (Words (codes "mountd(8) grants more: to ")) ∷ Own (Range (only found.address)) ∷ Own (Words (codes " ")) ∷ Own (LineLink finding.fs.0 found.other)
     ∷ listed (sym (copied_again (option_copied found.directory)) i)
-items_again finding (RepeatedClient found) = refl
+items_again finding reason = refl
 
 joined_by : {X V : Type 0} (f : X → V) (parts : V → List (Item (List ℕ))) (between : Item (List ℕ)) (xs : List X) → joined (λ x. parts (f x)) between xs ≡ joined parts between (map f xs)
 joined_by f parts between [] = refl
@@ -153,7 +119,7 @@ words_again finding =
     let reasons = finding.reasons.now in
     let each : joined (reason_items finding) comma reasons ≡ joined (λ reason. reason_items (same_finding finding) (again reason)) comma reasons = λ i. joined (λ reason. items_again finding reason i) comma reasons in
     each ∙ joined_by again (reason_items (same_finding finding)) comma reasons
-    ∙ ap (joined (reason_items (same_finding finding)) comma) (sym (map_twice reason_value reason_again reasons))
+    ∙ ap (joined (reason_items (same_finding finding)) comma) (sym (map_twice reason_value reason_kept reasons))
 
 level_again : (reasons : List Reason) → level_of_all reasons ≡ level_of_all (all_again reasons)
 level_again reasons = λ i. if some_first reasons i then LookFirst else Check

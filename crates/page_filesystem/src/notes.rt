@@ -123,13 +123,7 @@ fn said_by(line: &SiteLine<'_>, reason: Reason<'_>) -> Said
     match reason {
         Reason::NoClient => Said::MatchesNobody,
         Reason::NeverDecides => Said::NeverDecides,
-        Reason::ForEverybodyReadOnly
-        | Reason::ForEverybodyReadWrite
-        | Reason::Wide
-        | Reason::RootKeptForNetworks
-        | Reason::RootKeptForNames
-        | Reason::ServerGrantsMore(_)
-        | Reason::RepeatedClient(_) => granted(line),
+        _ => granted(line),
     }
 }
 

@@ -4,12 +4,12 @@ use Rattle.std.specs.Prelude.{count_by, filter}
 use Rattle.std.specs.List.{dedup, flat_map, list_any}
 use Rattle.std.proofs.lemmas.List.{length-map}
 use Rattle.page_data.specs.Reasons.{is_first, is_first_level, level_of, level_of_all}
-use Rattle.page_data.specs.Unique.{Another, GrantsMore, ReasonValue, ReasonsValue, reason_value, reasons_value}
+use Rattle.page_data.specs.Unique.{ReasonValue, ReasonsValue, reason_value, reasons_value}
 use Rattle.page_data.specs.declared.lines.LineReasons.{LineReasons}
 use Rattle.page_data.specs.declared.reasons.Level.{Level}
 use Rattle.page_data.specs.declared.reasons.Level.TheVariants.{LookFirst, Check}
 use Rattle.page_data.specs.declared.reasons.Reason.{Reason}
-use Rattle.page_data.specs.declared.reasons.Reason.TheVariants.{NoClient, NeverDecides, ForEverybodyReadOnly, ForEverybodyReadWrite, Wide, RootKeptForNetworks, RootKeptForNames, ServerGrantsMore, RepeatedClient}
+use Rattle.page_data.proofs.UniqueReasons.{by_kept, reason_kept}
 use Rattle.desk_exports.specs.declared.entry.Flavour.{Flavour}
 use Rattle.page_findings.specs.Deciding.{is_never, never_decides}
 use Rattle.page_findings.specs.Figures.{directories_of}
@@ -22,23 +22,14 @@ use Rattle.page_findings.proofs.Mapped.{count_mapped, filter_mapped, map_twice}
 -- ---- reasons
 
 abbrev pub is_never_by : ReasonValue → Bool
-is_never_by (GrantsMore found) = false
-is_never_by (Another reason) = is_never reason
+is_never_by reason = is_never (reason_kept reason)
 
 abbrev pub never_by : List ReasonValue → Bool
 never_by [] = false
 never_by (reason ∷ reasons) = is_never_by reason
 
 never_first : (reason : Reason) → is_never reason ≡ is_never_by (reason_value reason)
-never_first NoClient = refl
-never_first NeverDecides = refl
-never_first ForEverybodyReadOnly = refl
-never_first ForEverybodyReadWrite = refl
-never_first Wide = refl
-never_first RootKeptForNetworks = refl
-never_first RootKeptForNames = refl
-never_first (ServerGrantsMore found) = refl
-never_first (RepeatedClient found) = refl
+never_first reason = by_kept is_never (λ found other same. refl) reason
 
 pub never_is : (reasons : List Reason) → never_decides reasons ≡ never_by (map reason_value reasons)
 never_is [] = refl
@@ -54,19 +45,10 @@ never_lines reasons =
     ∙ ap (map (λ (one : ReasonsValue). one.line)) (filter_mapped reasons_value (λ (one : ReasonsValue). never_by one.reasons) reasons)
 
 abbrev pub level_by : ReasonValue → Level
-level_by (GrantsMore found) = LookFirst
-level_by (Another reason) = level_of reason
+level_by reason = level_of (reason_kept reason)
 
 level_is : (reason : Reason) → is_first reason ≡ is_first_level (level_by (reason_value reason))
-level_is NoClient = refl
-level_is NeverDecides = refl
-level_is ForEverybodyReadOnly = refl
-level_is ForEverybodyReadWrite = refl
-level_is Wide = refl
-level_is RootKeptForNetworks = refl
-level_is RootKeptForNames = refl
-level_is (ServerGrantsMore found) = refl
-level_is (RepeatedClient found) = refl
+level_is reason = by_kept is_first (λ found other same. refl) reason
 
 abbrev pub any_first : List ReasonValue → Bool
 any_first reasons = list_any (λ reason. is_first_level (level_by reason)) reasons

@@ -10,7 +10,7 @@ use Rattle.page_data.specs.declared.counts.Counts.{Counts}
 use Rattle.page_data.specs.declared.reasons.Level.{Level}
 use Rattle.page_data.specs.declared.reasons.Level.TheVariants.{Check, LookFirst}
 use Rattle.page_data.specs.declared.reasons.Reason.{Reason}
-use Rattle.page_data.specs.declared.reasons.Reason.TheVariants.{NoClient, NeverDecides, ForEverybodyReadOnly, ForEverybodyReadWrite, Wide, RootKeptForNetworks, RootKeptForNames, ServerGrantsMore, RepeatedClient}
+use Rattle.page_data.specs.declared.reasons.Reason.TheVariants.{NeverDecides, ForEverybodyReadOnly, ForEverybodyReadWrite, ServerGrantsMore}
 use Rattle.page_findings.specs.Badges.{badge_item, class_items, classes_items, level_item, measured_items, present}
 use Rattle.page_findings.specs.FindingWords.{colon, decide_words, deciding, finding_items, flavour_item, flavour_items, for_everybody, line_item, listed, reason_items, some_lines, wider}
 use Rattle.page_findings.specs.Joining.{comma}
@@ -69,15 +69,11 @@ wider_plain : (fs : ℕ) (found : WiderGrant) → ArePlain (wider fs found)
 wider_plain fs found = record { are = (listed_plain (option_copied found.directory)).are }
 
 reason_plain : (finding : Finding) (reason : Reason) → ArePlain (reason_items finding reason)
-reason_plain finding NoClient = record { are = refl }
 reason_plain finding NeverDecides = deciding_plain finding.fs.0 finding.deciding.now
 reason_plain finding ForEverybodyReadOnly = everybody_plain (codes "read-only") finding.terms.now
 reason_plain finding ForEverybodyReadWrite = everybody_plain (codes "read-write") finding.terms.now
-reason_plain finding Wide = record { are = refl }
-reason_plain finding RootKeptForNetworks = record { are = refl }
-reason_plain finding RootKeptForNames = record { are = refl }
 reason_plain finding (ServerGrantsMore found) = wider_plain finding.fs.0 found
-reason_plain finding (RepeatedClient found) = record { are = refl }
+reason_plain finding reason = record { are = refl }
 
 pub finding_plain : (finding : Finding) → ArePlain (finding_items finding)
 finding_plain finding = plain_joined (reason_items finding) comma comma_plain (reason_plain finding) finding.reasons.now

@@ -13,10 +13,11 @@ use Rattle.desk_text.specs.declared.address.Addr.{Addr}
 use Rattle.page_data.specs.Groups.{AreGrouped}
 use Rattle.page_data.specs.Laws.{IsSoundSite}
 use Rattle.page_data.specs.Reasons.{is_first, is_first_level, level_of_all}
-use Rattle.page_data.specs.Unique.{Another, GrantsMore, ReasonValue, reason_value}
+use Rattle.page_data.specs.Unique.{ReasonValue, reason_value}
 use Rattle.page_data.specs.declared.reasons.Level.TheVariants.{LookFirst, Check}
 use Rattle.page_data.specs.declared.reasons.Reason.{Reason}
-use Rattle.page_data.specs.declared.reasons.Reason.TheVariants.{NoClient, NeverDecides, ForEverybodyReadOnly, ForEverybodyReadWrite, Wide, RootKeptForNetworks, RootKeptForNames, ServerGrantsMore, RepeatedClient}
+use Rattle.page_data.specs.declared.reasons.Reason.TheVariants.{ServerGrantsMore}
+use Rattle.page_data.proofs.UniqueReasons.{by_kept, path_kept, reason_kept}
 use Rattle.page_html.specs.Items.{AndMore, Break, Item, Line, Number, Own, PartOf, Terms as TermsOf, items_html}
 use Rattle.page_html.specs.Items as items
 use Rattle.page_html.specs.Blocks.{tag_html}
@@ -68,16 +69,12 @@ known_row row = record {
   text = row.text.now;
 }
 
-abbrev reason_of : ReasonValue → Reason
-reason_of (GrantsMore found) = ServerGrantsMore (record { line = found.line; address = found.address; other = found.other; directory = option_map lend found.directory })
-reason_of (Another reason) = reason
-
 abbrev row_again : KnownRow → FindingRow
 row_again known = record {
   finding = record {
     fs = record { 0 = known.fs };
     line = known.line;
-    reasons = lend (map reason_of known.reasons);
+    reasons = lend (map reason_kept known.reasons);
     terms = lend known.terms;
     is_for_network = known.is_for_network;
     deciding = lend known.deciding;
@@ -95,20 +92,13 @@ fresh row = row_again (known_row row)
 
 wider_is : (fs line : ℕ) (address : Addr) (other : ℕ) (directory : Option (Bor (List (List ℕ))))
     → wider fs (record { line = line; address = address; other = other; directory = directory })
-    ≡ wider fs (record { line = line; address = address; other = other; directory = option_map lend (option_copied directory) })
+    ≡ wider fs (record { line = line; address = address; other = other; directory = option_map path_kept (option_copied directory) })
 wider_is fs line address other None = refl
 wider_is fs line address other (Some directory) = refl
 
-reason_is : (row : FindingRow) (reason : Reason) → reason_items row.finding reason ≡ reason_items (fresh row).finding (reason_of (reason_value reason))
-reason_is row NoClient = refl
-reason_is row NeverDecides = refl
-reason_is row ForEverybodyReadOnly = refl
-reason_is row ForEverybodyReadWrite = refl
-reason_is row Wide = refl
-reason_is row RootKeptForNetworks = refl
-reason_is row RootKeptForNames = refl
+reason_is : (row : FindingRow) (reason : Reason) → reason_items row.finding reason ≡ reason_items (fresh row).finding (reason_kept (reason_value reason))
 reason_is row (ServerGrantsMore found) = wider_is row.finding.fs.0 found.line found.address found.other found.directory
-reason_is row (RepeatedClient found) = refl
+reason_is row reason = refl
 
 -- what is said of values, with a part between each two, is said of others of which the same is said
 module _ {X : Type 0} (parts others_parts : X → List (Item (List ℕ))) (between : Item (List ℕ)) (f : X → X) (same : (x : X) → parts x ≡ others_parts (f x)) where
@@ -121,25 +111,17 @@ module _ {X : Type 0} (parts others_parts : X → List (Item (List ℕ))) (betwe
   joined_is (x ∷ xs) = λ i. same x i ++ joined_behind xs i
 
 abbrev reasons_again : List Reason → List Reason
-reasons_again reasons = map (λ reason. reason_of (reason_value reason)) reasons
+reasons_again reasons = map (λ reason. reason_kept (reason_value reason)) reasons
 
 items_is : (row : FindingRow) → finding_items row.finding ≡ finding_items (fresh row).finding
 items_is row =
-    joined_is (reason_items row.finding) (reason_items (fresh row).finding) comma (λ reason. reason_of (reason_value reason)) (reason_is row) row.finding.reasons.now
-    ∙ ap (reasons_items (fresh row).finding) (sym (map_twice reason_value reason_of row.finding.reasons.now))
+    joined_is (reason_items row.finding) (reason_items (fresh row).finding) comma (λ reason. reason_kept (reason_value reason)) (reason_is row) row.finding.reasons.now
+    ∙ ap (reasons_items (fresh row).finding) (sym (map_twice reason_value reason_kept row.finding.reasons.now))
 
-level_same : (reason : Reason) → is_first reason ≡ is_first (reason_of (reason_value reason))
-level_same NoClient = refl
-level_same NeverDecides = refl
-level_same ForEverybodyReadOnly = refl
-level_same ForEverybodyReadWrite = refl
-level_same Wide = refl
-level_same RootKeptForNetworks = refl
-level_same RootKeptForNames = refl
-level_same (ServerGrantsMore found) = refl
-level_same (RepeatedClient found) = refl
+level_same : (reason : Reason) → is_first reason ≡ is_first (reason_kept (reason_value reason))
+level_same reason = by_kept is_first (λ found other same. refl) reason
 
-any_same : (reasons : List Reason) → list_any is_first reasons ≡ list_any is_first (map reason_of (map reason_value reasons))
+any_same : (reasons : List Reason) → list_any is_first reasons ≡ list_any is_first (map reason_kept (map reason_value reasons))
 any_same [] = refl
 any_same (reason ∷ reasons) = λ i. level_same reason i || any_same reasons i
 
