@@ -19,3 +19,4 @@ pub mod OneSorting
 pub mod Alike
 pub mod Unique
 pub mod FewFlavours
+pub mod Plain

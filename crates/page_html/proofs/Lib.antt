@@ -8,5 +8,6 @@ pub mod Gaining
 pub mod Gathered
 pub mod OneOrder
 pub mod Telling
+pub mod Plain
 pub mod Markup
 pub mod Threes

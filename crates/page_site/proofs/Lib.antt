@@ -15,7 +15,6 @@ pub mod OneWaiting
 mod Parts
 pub mod Pieces
 mod Plain
-mod PlainFindings
 mod Sites
 mod UniqueFound
 mod UniquePage

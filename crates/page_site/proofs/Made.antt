@@ -14,7 +14,8 @@ use Rattle.page_html.specs.declared.blocks.Tag.{Tag}
 use Rattle.page_html.specs.declared.blocks.Tag.TheVariants.{TableEnd}
 use Rattle.page_site.specs.MadeOfBlocks.{HasNoOtherHtml, IsMadeOfBlocks, fixed_texts}
 use Rattle.page_site.specs.Pieces.{Just, Then, Told}
-use Rattle.page_site.proofs.Plain.{ArePlain, ArePlainCells, cells_alone, items_alone}
+use Rattle.page_html.proofs.Plain.{ArePlain, ArePlainCells}
+use Rattle.page_site.proofs.Plain.{cells_alone, items_alone}
 
 page_append : (some others : List (Block (List ℕ))) → page_html (some ++ others) ≡ page_html some ++ page_html others
 unfolding page_html

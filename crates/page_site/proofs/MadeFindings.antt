@@ -12,8 +12,8 @@ use Rattle.page_summary.specs.Findings.{cells, counts, findings_frame, fold_star
 use Rattle.page_summary.specs.declared.findings.FindingRow.{FindingRow}
 use Rattle.page_site.specs.MadeOfBlocks.{IsMadeOfBlocks}
 use Rattle.page_site.proofs.Made.{append_made, each_made, element_made, if_made, nothing_made, row_made, start_made, tag_made}
-use Rattle.page_site.proofs.Plain.{ArePlain, ArePlainCells, cells_cons, either_plain, parts, plain_append, plain_cons, plain_joined}
-use Rattle.page_site.proofs.PlainFindings.{finding_plain, level_plain}
+use Rattle.page_html.proofs.Plain.{ArePlain, ArePlainCells, cells_cons, either_plain, parts, plain_append, plain_cons}
+use Rattle.page_findings.proofs.Plain.{finding_plain, level_plain, plain_joined}
 
 counts_made : (first others : ℕ) → IsMadeOfBlocks (counts first others)
 counts_made first others =

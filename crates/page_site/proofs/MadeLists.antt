@@ -41,7 +41,7 @@ use Rattle.page_lists.specs.declared.uses.NameFacts.{NameFacts}
 use Rattle.page_lists.specs.declared.warnings.WarningRow.{WarningRow}
 use Rattle.page_site.specs.MadeOfBlocks.{IsMadeOfBlocks}
 use Rattle.page_site.proofs.Made.{IsMadeIf, append_made, element_made, fixed_made, if_made, nothing_made, rows_made, same_made, start_made, tag_made}
-use Rattle.page_site.proofs.Plain.{ArePlain, ArePlainCells, IsPlain, cells_cons, either_plain, part, parts, plain_append, plain_cons, plain_each, plain_if, some_cells}
+use Rattle.page_html.proofs.Plain.{ArePlain, ArePlainCells, IsPlain, cells_cons, either_plain, part, parts, plain_append, plain_cons, plain_each, plain_if, some_cells}
 
 -- ---- what a cell names
 mention_plain : (one : Mention) → ArePlain (mention one)

@@ -20,8 +20,8 @@ use Rattle.page_maps.specs.declared.networks.SystemClass.{SystemClass}
 use Rattle.page_maps.specs.declared.networks.SystemCounts.{SystemCounts}
 use Rattle.page_site.specs.MadeOfBlocks.{IsMadeOfBlocks}
 use Rattle.page_site.proofs.Made.{IsMadeIf, append_made, block_made, each_made, element_made, if_made, nothing_made, rows_made, same_made, start_made, tag_made}
-use Rattle.page_site.proofs.Plain.{ArePlain, ArePlainCells, IsPlain, cells_cons, either_plain, part, parts, plain_append, plain_cons, plain_if, plain_joined, some_cells}
-use Rattle.page_site.proofs.PlainFindings.{badge_plain, measured_plain}
+use Rattle.page_html.proofs.Plain.{ArePlain, ArePlainCells, IsPlain, cells_cons, either_plain, part, parts, plain_append, plain_cons, plain_if, some_cells}
+use Rattle.page_findings.proofs.Plain.{badge_plain, measured_plain, plain_joined}
 
 -- ---- maps
 count_plain : (count : ℕ) → IsPlain (count_item count)

@@ -26,8 +26,9 @@ use Rattle.page_site.specs.FoundInSite.{Found, IsFound}
 use Rattle.page_site.specs.MadeOfBlocks.{CellsHaveNoHtmlButPictures, HaveNoHtmlButPictures, IsMadeOfBlocks}
 use Rattle.page_site.specs.Page.{parts_of}
 use Rattle.page_site.proofs.Made.{all_append, append_made, block_made, fixed_made, nothing_made, same_made, start_made, tag_made}
-use Rattle.page_site.proofs.Plain.{ArePlain, ArePlainCells, cells_alone, cells_cons, either_plain, parts, plain_cons, some_cells}
-use Rattle.page_site.proofs.PlainFindings.{badge_plain}
+use Rattle.page_html.proofs.Plain.{ArePlain, ArePlainCells, cells_cons, either_plain, parts, plain_cons, some_cells}
+use Rattle.page_site.proofs.Plain.{cells_alone}
+use Rattle.page_findings.proofs.Plain.{badge_plain}
 
 -- ---- the cells of a row
 cells_append : (columns others : List Column) (some rest : List (List (Item (List ℕ)))) → length some ≡ length columns

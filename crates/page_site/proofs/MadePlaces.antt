@@ -28,8 +28,8 @@ use Rattle.page_places.specs.declared.groups.GroupPart.{GroupPart}
 use Rattle.page_places.specs.declared.openings.PlaceOpening.{PlaceOpening}
 use Rattle.page_site.specs.MadeOfBlocks.{IsMadeOfBlocks}
 use Rattle.page_site.proofs.Made.{append_made, element_made, if_made, nothing_made, row_made, rows_made, start_made, table_made, tag_made}
-use Rattle.page_site.proofs.Plain.{ArePlain, ArePlainCells, IsPlain, cells_cons, part, parts, plain_append, plain_cons, plain_if, plain_joined, plain_map, some_cells}
-use Rattle.page_site.proofs.PlainFindings.{badge_plain, comma_plain}
+use Rattle.page_html.proofs.Plain.{ArePlain, ArePlainCells, IsPlain, cells_cons, part, parts, plain_append, plain_cons, plain_if, plain_map, some_cells}
+use Rattle.page_findings.proofs.Plain.{badge_plain, comma_plain, plain_joined}
 
 place_plain : (place : Place) → IsPlain (place_item place)
 place_plain (Directory path) = record { is = refl }

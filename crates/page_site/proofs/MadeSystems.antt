@@ -39,8 +39,9 @@ use Rattle.page_places.specs.Groups.{groups_text}
 use Rattle.page_site.specs.MadeOfBlocks.{IsMadeOfBlocks}
 use Rattle.page_site.proofs.Made.{append_made, block_made, each_made, element_made, facts_made, if_made, nothing_made, start_made, system_start_made, table_made, tag_made}
 use Rattle.page_site.proofs.MadePlaces.{changes_made, groups_start_made, not_listed_made}
-use Rattle.page_site.proofs.Plain.{ArePlain, ArePlainCells, IsPlain, cells_alone, cells_cons, part, parts, plain_append, plain_cons, plain_if, some_cells}
-use Rattle.page_site.proofs.PlainFindings.{badge_plain, finding_plain, level_plain, measured_plain}
+use Rattle.page_html.proofs.Plain.{ArePlain, ArePlainCells, IsPlain, cells_cons, part, parts, plain_append, plain_cons, plain_if, some_cells}
+use Rattle.page_site.proofs.Plain.{cells_alone}
+use Rattle.page_findings.proofs.Plain.{badge_plain, finding_plain, level_plain, measured_plain}
 
 subheading_made : (words : List ℕ) → IsMadeOfBlocks (heading words)
 subheading_made words = element_made element.Subheading (Own (Words words) ∷ []) (record { are = refl })

@@ -13,12 +13,16 @@ use Rattle.page_data.specs.declared.reasons.Reason.{Reason}
 use Rattle.page_data.specs.declared.reasons.Reason.TheVariants.{NeverDecides, ForEverybodyReadOnly, ForEverybodyReadWrite, ServerGrantsMore}
 use Rattle.page_findings.specs.Badges.{badge_item, class_items, classes_items, level_item, measured_items, present}
 use Rattle.page_findings.specs.FindingWords.{colon, decide_words, deciding, finding_items, flavour_item, flavour_items, for_everybody, line_item, listed, reason_items, some_lines, wider}
-use Rattle.page_findings.specs.Joining.{comma}
+use Rattle.page_findings.specs.Joining.{comma, joined}
 use Rattle.page_findings.specs.declared.badges.Measure.{Measure}
 use Rattle.page_findings.specs.declared.badges.Measure.TheVariants.{Count, Share}
 use Rattle.page_findings.specs.declared.finding_words.Finding.{Finding}
-use Rattle.page_html.specs.Items.{AndMore, Own, Words}
-use Rattle.page_site.proofs.Plain.{ArePlain, IsPlain, plain_append, plain_cons, plain_joined}
+use Rattle.page_html.specs.Items.{AndMore, Item, Own, Words}
+use Rattle.page_html.proofs.Plain.{ArePlain, IsPlain, plain_append, plain_cons, plain_each}
+
+pub plain_joined : {X : Type 0} (items : X → List (Item (List ℕ))) (between : Item (List ℕ)) → IsPlain between → ((x : X) → ArePlain (items x)) → (xs : List X) → ArePlain (joined items between xs)
+plain_joined items between is plain [] = record { are = refl }
+plain_joined items between is plain (x ∷ xs) = plain_append (plain x) (plain_each (λ other. between ∷ items other) (λ other. plain_cons is (plain other)) xs)
 
 pub badge_plain : (class : Class) → IsPlain (badge_item class)
 badge_plain Denied = record { is = refl }
