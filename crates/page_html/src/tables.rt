@@ -59,6 +59,21 @@ pub fn five_cells<'a>(
     [first, second, third, fourth, fifth]
 }
 
+/// Makes a row of six cells.
+pub fn six_cells<'a>(
+    first: &'a [Part<'a>],
+    second: &'a [Part<'a>],
+    third: &'a [Part<'a>],
+    fourth: &'a [Part<'a>],
+    fifth: &'a [Part<'a>],
+    sixth: &'a [Part<'a>],
+) -> [&'a [Part<'a>]; 6]
+    ensures { map (λ cell. items_of cell.now) result
+        ≡ items_of first.now ∷ items_of second.now ∷ items_of third.now ∷ items_of fourth.now ∷ items_of fifth.now ∷ items_of sixth.now ∷ [] }
+{
+    [first, second, third, fourth, fifth, sixth]
+}
+
 /// Makes a row of seven cells.
 pub fn seven_cells<'a>(
     first: &'a [Part<'a>],
@@ -74,6 +89,24 @@ pub fn seven_cells<'a>(
         ∷ items_of seventh.now ∷ [] }
 {
     [first, second, third, fourth, fifth, sixth, seventh]
+}
+
+/// Makes a row of eight cells.
+pub fn eight_cells<'a>(
+    first: &'a [Part<'a>],
+    second: &'a [Part<'a>],
+    third: &'a [Part<'a>],
+    fourth: &'a [Part<'a>],
+    fifth: &'a [Part<'a>],
+    sixth: &'a [Part<'a>],
+    seventh: &'a [Part<'a>],
+    eighth: &'a [Part<'a>],
+) -> [&'a [Part<'a>]; 8]
+    ensures { map (λ cell. items_of cell.now) result
+        ≡ items_of first.now ∷ items_of second.now ∷ items_of third.now ∷ items_of fourth.now ∷ items_of fifth.now ∷ items_of sixth.now
+        ∷ items_of seventh.now ∷ items_of eighth.now ∷ [] }
+{
+    [first, second, third, fourth, fifth, sixth, seventh, eighth]
 }
 
 /// Adds a row, with a cell for each column.
