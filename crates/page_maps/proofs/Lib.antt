@@ -1,4 +1,3 @@
-pub mod Containing
 pub mod Mapped
 pub mod Telling
 pub mod Meeting
@@ -25,3 +24,4 @@ mod UniqueNetworks
 pub mod OneOrder
 pub mod Counting
 pub mod Alike
+pub mod Plain

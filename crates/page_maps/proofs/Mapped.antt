@@ -4,7 +4,7 @@ use Rattle.std.specs.Prelude.{All, Contains, filter}
 use Rattle.std.proofs.lemmas.Bool.{cases_Bool, cond-false, cond-true}
 use Rattle.std.proofs.lemmas.List.{get_or-map, length-map}
 use Rattle.std.proofs.lemmas.List.Elements.{All-cons, All-head, All-tail}
-use Rattle.page_maps.proofs.Containing.{here, here_or_there, there}
+use Rattle.page_data.proofs.Containing.{here, here_or_there, there}
 
 pub contains_map : {X Y : Type 0} (f : X → Y) (xs : List X) (x : X) → Contains xs x → Contains (map f xs) (f x)
 contains_map f xs x has = (let lt = has.1 in (has.0, omega (arith, length-map xs f), get_or-map f xs has.0 x (f x) has.1 ∙ ap f has.2))

@@ -10,7 +10,7 @@ use Rattle.std.proofs.lemmas.List.Sorted.{Contains-permutation, IsPermutation-sy
 use Rattle.desk_text.specs.Network.{Block, IsBlock}
 use Rattle.page_maps.specs.Order.{AreOrdered, ComesBefore}
 use Rattle.page_maps.specs.PrivateOrder.{order_of}
-use Rattle.page_maps.proofs.Containing.{here, here_or_there, there}
+use Rattle.page_data.proofs.Containing.{here, here_or_there, there}
 
 abbrev pub same : Block → Block → Bool
 same network other = eqb (order_of network) (order_of other)

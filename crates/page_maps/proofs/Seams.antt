@@ -10,7 +10,7 @@ use Rattle.page_data.specs.Classes.{class_run}
 use Rattle.page_data.specs.declared.class.Class.{Class}
 use Rattle.page_maps.specs.Maps.{AreMaps, IsNeeded, IsSeam, map_at}
 use Rattle.page_maps.specs.Order.{AreOrdered}
-use Rattle.page_maps.proofs.Containing.{here_or_there}
+use Rattle.page_data.proofs.Containing.{here_or_there}
 use Rattle.page_maps.proofs.Mapped.{contains_map, from_map}
 use Rattle.page_maps.proofs.Telling.{Kept, tells}
 

@@ -7,7 +7,7 @@ use Rattle.std.proofs.lemmas.List.Elements.{All-append, All-cons, All-nil, Conta
 use Rattle.desk_text.specs.Network.{Block}
 use Rattle.page_maps.specs.Laws.{SeamsAreShown}
 use Rattle.page_maps.specs.Maps.{IsWide, all_addresses, fixed_maps, is_listed, map_at, maps_with_fixed, same_network}
-use Rattle.page_maps.proofs.Containing.{here, there}
+use Rattle.page_data.proofs.Containing.{here, there}
 use Rattle.page_maps.proofs.Grids.{is_within}
 use Rattle.page_maps.proofs.Mapped.{all_filter, contains_filter}
 

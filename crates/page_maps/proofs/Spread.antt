@@ -9,7 +9,7 @@ use Rattle.page_data.specs.declared.class.Class.TheVariants.{Denied, ReadOnly, R
 use Rattle.page_maps.specs.Cells.{AreLeastAndMost, HasClass}
 use Rattle.page_maps.specs.PrivateCells.{AreMet, least_of, spread_of, with_run}
 use Rattle.page_maps.specs.declared.cells.Cell.{Cell}
-use Rattle.page_maps.proofs.Containing.{here, here_or_there, there}
+use Rattle.page_data.proofs.Containing.{here, here_or_there, there}
 use Rattle.page_maps.proofs.Telling.{Kept}
 
 -- one of the runs is of this class

@@ -11,7 +11,7 @@ use Rattle.desk_who.specs.declared.runs.Run.{Run as KeptRun}
 use Rattle.page_data.specs.Classes.{class_run}
 use Rattle.page_data.specs.declared.class.Class.{Class}
 use Rattle.page_maps.specs.PrivateCells.{IsHeld, TellClasses}
-use Rattle.page_maps.proofs.Containing.{here, there}
+use Rattle.page_data.proofs.Containing.{here, there}
 
 abbrev pub Kept : Type 0
 Kept = KeptRun Class

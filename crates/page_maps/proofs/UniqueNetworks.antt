@@ -1,5 +1,5 @@
 -- The networks that lines write have one table.
-use Rattle.std.proofs.Common.{◌≡◌, ℕ, zero, suc, ◌+◌, ◌-◌, ◌<◌, ◌≤◌, ◌++◌, ◌∙◌, Bool, cond, List, [], ap, arith, get_or, length, refl, subst, sym, take}
+use Rattle.std.proofs.Common.{◌≡◌, ℕ, zero, suc, ◌+◌, ◌-◌, ◌<◌, ◌≤◌, ◌++◌, ◌∙◌, Bool, cond, List, [], ◌∷◌, ap, arith, get_or, length, refl, subst, sym, take}
 use Rattle.std.specs.Prelude.{count_by}
 use Rattle.std.specs.List.{range_with_len}
 use Rattle.std.proofs.lemmas.List.{ext_get_or}
@@ -19,7 +19,6 @@ use Rattle.page_maps.specs.Laws.{NetworksAreToldInOneWay}
 use Rattle.page_maps.specs.NetworkRows.{AreCountsOfSite, AreNetworkRows, IsCountedIn, IsNetworkRow, alike_of, parts_of}
 use Rattle.page_maps.specs.NetworkTable.{GainsNetworks, networks_text}
 use Rattle.page_maps.specs.declared.networks.NetworkRow.{NetworkRow}
-use Rattle.page_maps.specs.declared.networks.SystemClass.{SystemClass}
 use Rattle.page_maps.specs.declared.networks.SystemCounts.{SystemCounts}
 use Rattle.page_maps.proofs.OneOrder.{ordered_in_one_way}
 
@@ -75,16 +74,22 @@ module _ (content : Content) where
     one_row : (row other : NetworkRow) → IsNetworkRow content network row → IsNetworkRow content network other → row ≡ other
     one_row row other is its =
         let counted = counted_in_one_way is.counted its.counted is.are its.are in
-        ap (λ (n : Block). record { network = n; alike = row.alike; parts = row.parts }) (is.own ∙ sym its.own)
-        ∙ ap (λ (alike : List SystemClass). record { network = other.network; alike = alike; parts = row.parts }) (is.alike ∙ ap (alike_of network) counted ∙ sym its.alike)
-        ∙ ap (λ (parts : List SystemCounts). record { network = other.network; alike = other.alike; parts = parts }) (is.parts ∙ ap (parts_of network) counted ∙ sym its.parts)
+        λ i. record {
+          network = (is.own ∙ sym its.own) i;
+          alike = (is.alike ∙ ap (alike_of network) counted ∙ sym its.alike) i;
+          parts = (is.parts ∙ ap (parts_of network) counted ∙ sym its.parts) i;
+        }
 
-  rows_in_one_way : (networks : List Block) (rows others : List NetworkRow) → AreNetworkRows content networks rows → AreNetworkRows content networks others → rows ≡ others
-  rows_in_one_way networks rows others are its =
+  rows_by : (row : NetworkRow) (networks : List Block) (rows others : List NetworkRow) → AreNetworkRows content networks rows → AreNetworkRows content networks others → rows ≡ others
+  rows_by row networks rows others are its =
       let network : Block = record { first = 0; prefix = 0 } in
-      let row : NetworkRow = record { network = network; alike = []; parts = [] } in
       ext_get_or row rows others (are.count ∙ sym its.count)
       (λ i within. (let many = are.count in one_row (get_or networks i network) (get_or rows i row) (get_or others i row) (are.each i network row (omega arith)) (its.each i network row (omega arith))))
+
+  rows_in_one_way : (networks : List Block) (rows others : List NetworkRow) → AreNetworkRows content networks rows → AreNetworkRows content networks others → rows ≡ others
+  rows_in_one_way networks [] [] are its = refl
+  rows_in_one_way networks [] (row ∷ others) are its = rows_by row networks [] (row ∷ others) are its
+  rows_in_one_way networks (row ∷ rows) others are its = rows_by row networks (row ∷ rows) others are its
 
   one_table : (page gained other : List ℕ) → GainsNetworks content page gained → GainsNetworks content page other → gained ≡ other
   one_table page gained other own its =
