@@ -14,6 +14,7 @@ mod Ends
 mod Gaining
 mod Grounds
 mod Itemed
+mod Pictured
 mod Ranged
 mod Sized
 mod Spans

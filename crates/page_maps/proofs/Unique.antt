@@ -1,7 +1,6 @@
 -- The runs of a function of addresses leave one list of maps that are needed, and one map of each network.
 use Rattle.std.proofs.Common.{◌≡◌, ℕ, ◌++◌, ◌∙◌, List, [], ◌∷◌, ap, arith, drop, get_or, length, map, refl, subst, sym, take}
 use Rattle.std.specs.Prelude.{All}
-use Rattle.std.specs.List.{flat_map}
 use Rattle.std.proofs.lemmas.List.{ext_get_or}
 use Rattle.std.proofs.lemmas.List.Elements.{All-head, All-tail}
 use Rattle.desk_text.specs.Network.{Block, last_of}
@@ -16,8 +15,9 @@ use Rattle.page_maps.specs.Cells.{AreCells, AreLeastAndMost}
 use Rattle.page_maps.specs.Maps.{AreMaps, fixed_maps, maps_with_fixed}
 use Rattle.page_maps.specs.declared.cells.Cell.{Cell}
 use Rattle.page_maps.proofs.OneOrder.{one_order}
+use Rattle.page_maps.specs.Drawing.{small_map}
 use Rattle.page_maps.specs.DrawnMaps.{AreDrawnFrom, IsDrawnFrom}
-use Rattle.page_maps.specs.Figures.{GainsFileSystemMaps, GainsGroupMaps, GainsMaps, GainsOverviewMaps, figures, most_of_file_system, most_of_group, small_cell}
+use Rattle.page_maps.specs.Figures.{AreOverviewMaps, GainsFileSystemMaps, GainsGroupMaps, GainsMaps, figures, most_of_file_system, most_of_group}
 use Rattle.page_maps.specs.Laws.{MapsAreToldInOneWay}
 use Rattle.page_maps.specs.declared.drawn_maps.DrawnMap.{DrawnMap}
 
@@ -97,13 +97,13 @@ module _ (class_at : ℕ → Class) where
         let same = one_list own.needed its.needed (own.are class_at of) (its.are class_at of) in
         one_text most_of_group own.needed page gained other own.maps (subst (λ (needed : List Block). GainsMaps runs most_of_group needed page other) (sym same) its.maps)
 
-    in_overview : (page gained other : List ℕ) → GainsOverviewMaps runs page gained → GainsOverviewMaps runs page other → gained ≡ other
-    in_overview page gained other own its =
-        own.text ∙ ap (λ drawn. page ++ flat_map small_cell drawn) (one_drawing fixed_maps own.drawn its.drawn own.are its.are) ∙ sym its.text
+    in_overview : (images others : List (List ℕ)) → AreOverviewMaps runs images → AreOverviewMaps runs others → images ≡ others
+    in_overview images others own its =
+        own.images_are ∙ ap (map small_map) (one_drawing fixed_maps own.drawn its.drawn own.are its.are) ∙ sym its.images_are
 
 pub maps_are_told_in_one_way : MapsAreToldInOneWay
 maps_are_told_in_one_way runs some = record {
   of_file_system = record { same = of_file_system some.value_at runs some.are };
   of_group = record { same = of_group some.value_at runs some.are };
-  in_overview = record { same = in_overview some.value_at runs some.are };
+  in_overview = in_overview some.value_at runs some.are;
 }

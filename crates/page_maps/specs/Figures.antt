@@ -1,5 +1,5 @@
 -- The maps of a part of the page. (this project's own, over HTML)
-use Rattle.std.specs.Prelude.{◌≡◌, ℕ, ◌==◌, ◌&&◌, ◌||◌, List, [], ◌∷◌, ◌++◌, codes, count_by, drop, length, take, if◌then◌else◌}
+use Rattle.std.specs.Prelude.{◌≡◌, ℕ, ◌==◌, ◌&&◌, ◌||◌, List, [], ◌∷◌, ◌++◌, codes, count_by, drop, length, map, take, if◌then◌else◌}
 use Rattle.std.specs.List.{flat_map}
 use Rattle.desk_text.specs.Network.{Block, block_size}
 use Rattle.desk_who.specs.Runs.{Run}
@@ -7,13 +7,14 @@ use Rattle.page_data.specs.Counts.{granted_of}
 use Rattle.page_data.specs.declared.class.Class.{Class}
 use Rattle.page_maps.specs.Maps.{AreMapsFrom, fixed_maps, maps_with_fixed}
 use Rattle.page_html.specs.Blocks.{element_html, tag_html}
+use Rattle.page_html.specs.Images.{image_html}
 use Rattle.page_html.specs.Items.{Item, Drawn, Nothing, Own, PartOf, Plural, Words, items_html}
-use Rattle.page_html.specs.Tables.{Plain, cell_html}
 use Rattle.page_html.specs.declared.blocks.Element.TheVariants.{Cut, Figure}
 use Rattle.page_html.specs.declared.blocks.Tag.TheVariants.{MapsEnd, MapsStart}
 use Rattle.page_maps.specs.Drawing.{large_map, network_item, small_map}
 use Rattle.page_maps.specs.DrawnMaps.{AreDrawnFrom}
 use Rattle.page_maps.specs.declared.drawn_maps.DrawnMap.{DrawnMap}
+use Rattle.page_maps.specs.declared.figures.FixedMaps.{FixedMaps}
 
 -- what a network is called below its map
 abbrev pub name_item : Block → Item (List ℕ)
@@ -98,12 +99,12 @@ pub record GainsGroupMaps (runs : List (Run Class)) (page gained : List ℕ) : T
   pub are : AreMapsFrom runs needed
   pub maps : GainsMaps runs most_of_group needed page gained
 
--- a cell of a table with a small map, whatever the head of its column is
-abbrev pub small_cell : DrawnMap → List ℕ
-small_cell drawn = cell_html (Plain []) (Own (Drawn (small_map drawn)) ∷ [])
+-- the small maps that each file system has, as images, the widest network first
+abbrev pub images_of : FixedMaps → List (List ℕ)
+images_of maps = image_html maps.all ∷ image_html maps.wide ∷ image_html maps.middle ∷ image_html maps.narrow ∷ []
 
--- The four cells of a row of the table of file systems: the maps that each one has.
-pub record GainsOverviewMaps (runs : List (Run Class)) (page gained : List ℕ) : Type 0 where
+-- The images of a row of the table of file systems: the maps that each one has.
+pub record AreOverviewMaps (runs : List (Run Class)) (images : List (List ℕ)) : Type 0 where
   pub drawn : List DrawnMap
   pub are : AreDrawnFrom runs fixed_maps drawn
-  pub text : gained ≡ page ++ flat_map small_cell drawn
+  pub images_are : images ≡ map small_map drawn

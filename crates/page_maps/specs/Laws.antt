@@ -7,7 +7,7 @@ use Rattle.page_data.specs.Values.{AreRunsOfSome}
 use Rattle.page_data.specs.declared.class.Class.{Class}
 use Rattle.page_maps.specs.Cells.{AreCells, cell_first, cell_last, cell_size}
 use Rattle.page_maps.specs.DrawnMaps.{IsDrawnFrom}
-use Rattle.page_maps.specs.Figures.{GainsFileSystemMaps, GainsGroupMaps, GainsOverviewMaps, count_of, figures}
+use Rattle.page_maps.specs.Figures.{AreOverviewMaps, GainsFileSystemMaps, GainsGroupMaps, count_of, figures}
 use Rattle.page_maps.specs.Maps.{AreMaps, IsNeeded, IsSeam, IsWide, maps_with_fixed}
 use Rattle.page_maps.specs.NetworkTable.{GainsNetworks}
 use Rattle.page_maps.specs.declared.cells.Cell.{Cell}
@@ -91,7 +91,7 @@ pub record IsOneText (gains : List ℕ → List ℕ → Type 0) : Type 0 where
 pub record AreToldInOneWay (runs : List (Run Class)) : Type 0 where
   pub of_file_system : IsOneText (GainsFileSystemMaps runs)
   pub of_group : IsOneText (GainsGroupMaps runs)
-  pub in_overview : IsOneText (GainsOverviewMaps runs)
+  pub in_overview : (images others : List (List ℕ)) → AreOverviewMaps runs images → AreOverviewMaps runs others → images ≡ others
 
 abbrev pub MapsAreToldInOneWay : Type 0
 MapsAreToldInOneWay = (runs : List (Run Class)) → AreRunsOfSome runs → AreToldInOneWay runs

@@ -4,8 +4,9 @@ use Rattle.std.specs.List.{flat_map}
 use Rattle.desk_text.specs.Network.{Block}
 use Rattle.desk_who.specs.Runs.{Run}
 use Rattle.page_data.specs.declared.class.Class.{Class}
-use Rattle.page_maps.specs.DrawnMaps.{AreDrawnFrom}
-use Rattle.page_maps.specs.Figures.{figure, small_cell}
+use Rattle.page_maps.specs.Drawing.{small_map}
+use Rattle.page_maps.specs.DrawnMaps.{AreDrawnFrom, IsDrawnFrom}
+use Rattle.page_maps.specs.Figures.{figure}
 use Rattle.page_maps.specs.declared.drawn_maps.DrawnMap.{DrawnMap}
 
 -- a page gains a text for the map of each network
@@ -14,9 +15,13 @@ pub record GainsEach (text_of : DrawnMap → List ℕ) (runs : List (Run Class))
   pub are : AreDrawnFrom runs networks drawn
   pub text : gained ≡ page ++ flat_map text_of drawn
 
--- a figure for each, and a cell of a table
+-- a figure for each
 abbrev pub GainsFigures : List (Run Class) → List Block → List ℕ → List ℕ → Type 0
 GainsFigures runs networks page gained = GainsEach figure runs networks page gained
 
-abbrev pub GainsCells : List (Run Class) → List Block → List ℕ → List ℕ → Type 0
-GainsCells runs networks page gained = GainsEach small_cell runs networks page gained
+-- the small map of a network
+pub record IsSmallMapOf (runs : List (Run Class)) (network : Block) (image : List ℕ) : Type 0 where
+  pub drawn : DrawnMap
+  pub of : drawn.network ≡ network
+  pub from : IsDrawnFrom runs drawn
+  pub image_is : image ≡ small_map drawn

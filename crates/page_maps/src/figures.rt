@@ -7,18 +7,17 @@ ghost use Rattle.page_data.specs.Values.{AreRunsOfSome};
 ghost use Rattle.page_html.specs.Images.{image_html};
 ghost use Rattle.page_html.specs.Parts.{item_of};
 ghost use Rattle.page_maps.specs.Maps.{IsWide};
-ghost use Rattle.page_maps.specs.Drawing.{small_map};
 ghost use Rattle.page_maps.specs.DrawnMaps.{IsDrawable};
 ghost use Rattle.page_maps.specs.Figures as spec;
-ghost use Rattle.page_maps.specs.PrivateFigures.{GainsCells, GainsFigures};
+ghost use Rattle.page_maps.specs.PrivateFigures.{GainsFigures, IsSmallMapOf};
 
 use crate::drawing::{network_part, push_large_map, push_small_map, size_of};
 use crate::drawn_maps::{DrawnMap, drawn_map};
-use crate::maps::{maps_of, with_fixed_maps};
+use crate::maps::{fixed_networks, maps_of, with_fixed_maps};
 use desk_text::Net;
 use desk_who::Run;
 use page_data::Class;
-use page_html::{Column, Drawn, Element, Part, Tag, push_cell, push_element, push_tag};
+use page_html::{Drawn, Element, Part, Tag, push_element, push_tag};
 use std::alloc::{AllocError, Global};
 
 /// How many maps a file system has at most, and how many a group of directories: `most_of_file_system` and `most_of_group`.
@@ -26,8 +25,14 @@ const MOST_OF_FILE_SYSTEM: usize = 12;
 
 const MOST_OF_GROUP: usize = 6;
 
-/// A column of small maps, whatever its head is.
-const MAP: Column = Column::Plain("");
+/// The small maps that each file system has: of all addresses, and of the private networks, the widest first.
+#[derive(Drop)]
+pub struct FixedMaps {
+    pub all: Drawn,
+    pub wide: Drawn,
+    pub middle: Drawn,
+    pub narrow: Drawn,
+}
 
 /// Adds the maps of a file system: those that each one has, and then the others that are needed, at most 12; and how many are not drawn.
 pub fn push_file_system_maps(
@@ -58,18 +63,18 @@ pub fn push_group_maps(
     Ok(())
 }
 
-/// Adds the four cells of a row of the table of file systems: the maps that each one has.
-pub fn push_overview_maps(
-    alloc: Global,
-    runs: &[Run<Class>],
-    page: &mut String,
-) -> Result<(), AllocError>
+/// Draws the maps of a row of the table of file systems: those that each one has.
+pub fn overview_maps(alloc: Global, runs: &[Run<Class>]) -> Result<FixedMaps, AllocError>
     requires { AreRunsOfSome (map class_run runs.now) }
-    ensures { OnOk result (spec.GainsOverviewMaps (map class_run runs.now) (string_bytes page.old) (string_bytes page.new)) }
+    ensures { IfOk result (λ maps. spec.AreOverviewMaps (map class_run runs.now) (spec.images_of maps)) }
 {
-    let fixed = with_fixed_maps(alloc, &[])?;
-    push_small_cells(alloc, runs, fixed.as_slice(), page)?;
-    Ok(())
+    let [all, wide, middle, narrow] = fixed_networks();
+    Ok(FixedMaps {
+        all: small_map(alloc, runs, all)?,
+        wide: small_map(alloc, runs, wide)?,
+        middle: small_map(alloc, runs, middle)?,
+        narrow: small_map(alloc, runs, narrow)?,
+    })
 }
 
 /// Adds the maps of the first so many networks, and how many others there are.
@@ -232,40 +237,14 @@ fn count_of(networks: &[Net], prefix: u8) -> usize
         .count()
 }
 
-/// Adds a cell of a table with a small map for each network.
-fn push_small_cells(
-    alloc: Global,
-    runs: &[Run<Class>],
-    networks: &[Net],
-    page: &mut String,
-) -> Result<(), AllocError>
+/// Draws the small map of a network.
+fn small_map(alloc: Global, runs: &[Run<Class>], network: Net) -> Result<Drawn, AllocError>
     requires runs { AreRunsOfSome (map class_run runs.now) }
-    requires wide { All IsWide networks.now }
-    ensures { OnOk result (GainsCells (map class_run runs.now) networks.now (string_bytes page.old) (string_bytes page.new)) }
+    requires wide { IsWide network }
+    ensures { IfOk result (λ image. IsSmallMapOf (map class_run runs.now) network (image_html image)) }
 {
-    for network in networks {
-        let drawn = drawn_map(alloc, runs, *network)?;
-        push_small_cell(alloc, &drawn, page)?;
-    }
-    Ok(())
-}
-
-/// Adds a cell of a table with a small map.
-fn push_small_cell(alloc: Global, drawn: &DrawnMap, page: &mut String) -> Result<(), AllocError>
-    requires { IsDrawable drawn.now }
-    ensures { OnOk result (string_bytes page.new ≡ string_bytes page.old ++ spec.small_cell drawn.now) }
-{
-    let image = small_image(alloc, drawn)?;
-    push_cell(alloc, MAP, &[Part::Drawn(&image)], page)?;
-    Ok(())
-}
-
-/// Draws a small map.
-fn small_image(alloc: Global, drawn: &DrawnMap) -> Result<Drawn, AllocError>
-    requires { IsDrawable drawn.now }
-    ensures { IfOk result (λ image. image_html image ≡ small_map drawn.now) }
-{
+    let drawn = drawn_map(alloc, runs, network)?;
     let mut image = Drawn::new(alloc);
-    push_small_map(alloc, drawn, &mut image)?;
+    push_small_map(alloc, &drawn, &mut image)?;
     Ok(image)
 }

@@ -29,7 +29,7 @@ pub mod shapes;
 
 pub use cells::{Cell, cells_of};
 pub use drawn_maps::{DrawnMap, drawn_map};
-pub use figures::{push_file_system_maps, push_group_maps, push_overview_maps};
+pub use figures::{FixedMaps, overview_maps, push_file_system_maps, push_group_maps};
 pub use laws::{
     cells_cover_the_network, grounds_have_just_the_cells, maps_are_exact_together,
     maps_are_told_in_one_way, needed_maps_are_told, networks_are_told_in_one_way, seams_are_shown,

@@ -5,7 +5,7 @@ ghost use Rattle.desk_text.specs.Address.{number_of};
 ghost use Rattle.desk_text.specs.Network.{IsBlock, block_of};
 ghost use Rattle.page_data.specs.Classes.{class_run};
 ghost use Rattle.page_maps.specs.Maps as spec;
-ghost use Rattle.page_maps.specs.Maps.{AreMapsFrom, IsWide, is_listed, map_at, maps_with_fixed, same_network};
+ghost use Rattle.page_maps.specs.Maps.{AreMapsFrom, IsWide, fixed_maps, is_listed, map_at, maps_with_fixed, same_network};
 
 use crate::order::ordered;
 use desk_text::{Addr, Net, Prefix};
@@ -60,12 +60,7 @@ pub fn with_fixed_maps(alloc: Global, maps: &[Net]) -> Result<Vec<Net>, AllocErr
     ensures maps { IfOk result (λ all. all.items ≡ maps_with_fixed maps.now) }
     ensures wide { IfOk result (λ all. All IsWide all.items) }
 {
-    let fixed = [
-        network(0, 0),
-        network(0x0a00_0000, 8),
-        network(0xac10_0000, 12),
-        network(0xc0a8_0000, 16),
-    ];
+    let fixed = fixed_networks();
     let mut all = Vec::from_slice(alloc, &fixed)?;
     for map in maps {
         if !is_listed(&fixed, *map) {
@@ -73,6 +68,18 @@ pub fn with_fixed_maps(alloc: Global, maps: &[Net]) -> Result<Vec<Net>, AllocErr
         }
     }
     Ok(all)
+}
+
+/// Returns the networks of the maps that each file system has.
+pub(crate) fn fixed_networks() -> [Net; 4]
+    ensures { result ≡ fixed_maps }
+{
+    [
+        network(0, 0),
+        network(0x0a00_0000, 8),
+        network(0xac10_0000, 12),
+        network(0xc0a8_0000, 16),
+    ]
 }
 
 /// Tests whether a network is one of these.
