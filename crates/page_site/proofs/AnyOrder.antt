@@ -25,13 +25,13 @@ use Rattle.page_summary.specs.FindingRows.{AreFindingRows, FindingTable, finding
 use Rattle.page_summary.specs.FlavoursRows.{AreFlavoursRows}
 use Rattle.page_summary.specs.FlavoursTable.{flavours_table}
 use Rattle.page_summary.specs.Header.{header}
-use Rattle.page_summary.specs.KeyFigures.{AreKeyFigures}
+use Rattle.page_summary.specs.KeyFigures.{AreFiguresWith, AreKeyFigures}
 use Rattle.page_summary.specs.Proposals.{ProposalValue, standing_proposals}
 use Rattle.page_summary.specs.Sections.{section_end, section_start}
 use Rattle.page_summary.specs.SiteFinding.{findings_among}
 use Rattle.page_summary.specs.State.{IsStateDigest}
 use Rattle.page_summary.specs.SystemRows.{AreOverviewRows, IsRowOf, OverviewRows, overview_text}
-use Rattle.page_summary.specs.declared.figures.Figures.{Figures}
+use Rattle.page_summary.specs.declared.figures.KeyFigures.{KeyFigures}
 use Rattle.page_summary.specs.declared.header.Header.{Header}
 use Rattle.page_summary.specs.declared.overview.SystemRow.{SystemRow}
 use Rattle.page_summary.specs.declared.sections.Section.{Section}
@@ -99,21 +99,9 @@ module _ (heads others : List Head) (proposals waits : List Proposal) (newest : 
       (told_moved (IsHeader others waits word) (IsHeader heads proposals word) header (header_moved word)))
 
   -- ---- the summary
-  figures_moved : (content : Content) (lines : List LineValue) (counted : Figures) → AreKeyFigures content lines waits counted
+  figures_moved : (content : Content) (lines : List LineValue) (counted : KeyFigures) → AreKeyFigures content lines waits counted
       → AreKeyFigures content lines proposals counted
-  figures_moved content lines counted is = record {
-    systems = is.systems;
-    guarded = is.guarded;
-    all = is.all;
-    directories = is.directories;
-    for_everybody = is.for_everybody;
-    writable = is.writable;
-    root_kept = is.root_kept;
-    root_for_many = is.root_for_many;
-    idle = is.idle;
-    warnings = is.warnings;
-    waiting = is.waiting ∙ sym count;
-  }
+  figures_moved content lines counted is = subst (λ (many : ℕ). AreFiguresWith content lines many counted) (sym count) is
 
   findings_moved : (table : List Mount) (decided : List (List DecidedFor)) (lines : List LineValue) (made : FindingTable)
       → AreFindingRows table others decided lines made → AreFindingRows table heads decided lines made

@@ -1,19 +1,17 @@
 -- The table of the lines that stand out is made of blocks.
 use Rattle.std.proofs.Common.{ℕ, ◌-◌, ◌==◌, List, [], ◌∷◌, codes, drop, length, refl, take}
 use Rattle.std.specs.Prelude.{count_by, nat_le}
-use Rattle.page_data.specs.Reasons.{level_of_all}
-use Rattle.page_html.specs.Items.{AndMore, Break, Line, Link, Number, Own, Plural, Words}
+use Rattle.page_html.specs.Items.{Link, Number, Own, Plural, Words}
 use Rattle.page_html.specs.Tables.{Frame}
 use Rattle.page_html.specs.Titles.{Said}
 use Rattle.page_html.specs.declared.blocks.Element.TheVariants.{Fold, Paragraph}
 use Rattle.page_html.specs.declared.blocks.Tag.TheVariants.{FoldEnd, TableEnd}
 use Rattle.page_summary.specs.FindingRows.{FindingTable, findings_text}
-use Rattle.page_summary.specs.Findings.{cells, counts, findings_frame, fold_start, folded_rows, is_first_row, lines_html, more_frame, no_finding, open_and_folded, open_rows, place, places, shared, shared_by, table, what}
+use Rattle.page_summary.specs.Findings.{cells, counts, findings_frame, fold_start, folded_rows, is_first_row, lines_html, more_frame, no_finding, open_and_folded, open_rows, table}
 use Rattle.page_summary.specs.declared.findings.FindingRow.{FindingRow}
 use Rattle.page_site.specs.MadeOfBlocks.{IsMadeOfBlocks}
 use Rattle.page_site.proofs.Made.{append_made, each_made, element_made, if_made, nothing_made, row_made, start_made, tag_made}
-use Rattle.page_html.proofs.Plain.{ArePlain, ArePlainCells, cells_cons, either_plain, parts, plain_append, plain_cons}
-use Rattle.page_findings.proofs.Plain.{finding_plain, level_plain, plain_joined}
+use Rattle.page_summary.proofs.Plain.{finding_cells_plain}
 
 counts_made : (first others : ℕ) → IsMadeOfBlocks (counts first others)
 counts_made first others =
@@ -22,29 +20,10 @@ counts_made first others =
     ∷ Own (Words (codes " to check. These are fixed rules over the lines (")) ∷ Own (Link (codes "read") (codes "below"))
     ∷ Own (Words (codes "); what the site intends they do not know.")) ∷ []) (record { are = refl })
 
--- ---- a row
-places_plain : (lines : List FindingRow) → ArePlain (places lines)
-places_plain lines =
-    let more : ArePlain (Own (AndMore (length (drop 4 lines))) ∷ []) = record { are = refl } in
-    plain_append (plain_joined place (Own Break) (record { is = refl }) (λ line. record { are = refl }) (take 4 lines)) more
-
-shared_plain : (count : ℕ) → ArePlain (shared count)
-shared_plain count = either_plain (count == 1) (parts [] refl) (parts (shared_by count) refl)
-
-what_plain : (first : FindingRow) (count : ℕ) → ArePlain (what first count)
-what_plain first count =
-    let line : ArePlain (Own Break ∷ Line first.text.now ∷ []) = record { are = refl } in
-    plain_append (plain_append (finding_plain first.finding) (shared_plain count)) line
-
-cells_plain : (first : FindingRow) (lines : List FindingRow) → ArePlainCells (cells first lines)
-cells_plain first lines =
-    cells_cons (plain_cons (level_plain (level_of_all first.finding.reasons.now)) (parts [] refl))
-    (cells_cons (places_plain lines) (cells_cons (what_plain first (length lines)) (record { are = refl })))
-
 -- ---- the table
 lines_made : (frame : Frame) (lines : List FindingRow) → IsMadeOfBlocks (lines_html frame lines)
 lines_made frame [] = nothing_made
-lines_made frame (first ∷ others) = row_made frame (cells first (first ∷ others)) (cells_plain first (first ∷ others))
+lines_made frame (first ∷ others) = row_made frame (cells first (first ∷ others)) (finding_cells_plain first (first ∷ others))
 
 finding_table_made : (frame : Frame) (title : List ℕ) (rows : List (List FindingRow)) → IsMadeOfBlocks (table frame title rows)
 finding_table_made frame title rows =

@@ -7,16 +7,16 @@ use Rattle.page_html.specs.declared.blocks.Element.TheVariants as element
 use Rattle.page_html.specs.declared.blocks.Tag.TheVariants.{FindingsStart, HeaderStart, ListEnd, SummaryStart}
 use Rattle.page_maps.specs.Shapes.{shapes}
 use Rattle.page_summary.specs.Figures as figures
+use Rattle.page_summary.specs.FlavoursRows.{row_value}
 use Rattle.page_summary.specs.FlavoursTable as flavours
 use Rattle.page_summary.specs.Header.{header, links, scope, state, title}
 use Rattle.page_summary.specs.Proposals.{ProposalValue, entries, entry, list, said, standing_proposals}
-use Rattle.page_summary.specs.declared.figures.Figures.{Figures}
+use Rattle.page_summary.specs.declared.figures.KeyFigures.{KeyFigures}
 use Rattle.page_summary.specs.declared.flavours.FlavoursRow.{FlavoursRow}
 use Rattle.page_summary.specs.declared.header.Header.{Header}
 use Rattle.page_site.specs.MadeOfBlocks.{IsMadeOfBlocks}
 use Rattle.page_site.proofs.Made.{append_made, each_made, element_made, facts_made, fixed_made, if_made, nothing_made, table_made, tag_made}
-use Rattle.page_site.proofs.MadeLists.{some_items_plain}
-use Rattle.page_html.proofs.Plain.{ArePlainCells, cells_cons, some_cells}
+use Rattle.page_summary.proofs.Plain.{figures_plain, flavours_plain}
 
 -- ---- the header
 pub shapes_made : IsMadeOfBlocks shapes
@@ -44,8 +44,8 @@ header_made told =
     append_made (append_made (append_made (append_made (tag_made HeaderStart) (title_made told.database.now)) scope_made) (state_made told)) links_made
 
 -- ---- the summary
-pub figures_made : (counted : Figures) → IsMadeOfBlocks (figures.figures counted)
-figures_made counted = append_made (tag_made SummaryStart) (facts_made figures.figures_frame (figures.facts counted) (record { are = refl }))
+pub figures_made : (counted : KeyFigures) → IsMadeOfBlocks (figures.figures counted)
+figures_made counted = append_made (tag_made SummaryStart) (facts_made figures.figures_frame (figures.facts counted) (figures_plain counted))
 
 entry_made : (table : List Mount) (row : ProposalValue) → IsMadeOfBlocks (entry table row)
 entry_made table row = element_made element.Entry (said table row) (record { are = refl })
@@ -62,9 +62,6 @@ proposals_made table rows =
     append_made (element_made element.Heading (Own (Words (codes "What stands out")) ∷ []) (record { are = refl }))
     (if_made (length rows == 0) nothing_made (list_made table rows))
 
-flavours_plain : (row : FlavoursRow) → ArePlainCells (flavours.cells row)
-flavours_plain row = record { are = (cells_cons (some_items_plain 12 row.systems.now) (some_cells [] refl)).are }
-
 pub flavours_made : (rows : List FlavoursRow) → IsMadeOfBlocks (flavours.flavours_table rows)
 flavours_made rows =
-    table_made flavours.flavours_frame (Said (codes "Security flavours of the lines that grant") ∷ []) flavours.cells flavours_plain rows
+    table_made flavours.flavours_frame (Said (codes "Security flavours of the lines that grant") ∷ []) flavours.row_cells (λ row. flavours_plain (row_value row)) rows

@@ -39,7 +39,7 @@ use Rattle.page_summary.specs.Proposals.{standing_proposals}
 use Rattle.page_summary.specs.Sections.{footer, section_end, section_start}
 use Rattle.page_summary.specs.SystemRows.{AreOverviewRows, OverviewRows, SiteParts, overview_text}
 use Rattle.page_summary.specs.UniqueLaws.{SummaryIsToldInOneWay}
-use Rattle.page_summary.specs.declared.figures.Figures.{Figures}
+use Rattle.page_summary.specs.declared.figures.KeyFigures.{KeyFigures}
 use Rattle.page_summary.specs.declared.flavours.FlavoursRow.{FlavoursRow}
 use Rattle.page_summary.specs.declared.header.Header.{Header}
 use Rattle.page_summary.specs.declared.sections.Section.{Section}
@@ -141,7 +141,7 @@ module _ (lists : ListsAreToldInOneWay) (summary : SummaryIsToldInOneWay) (lines
     same_widening = parts.widening source.content source.waiting found.widening other.widening are_widening are_others
 
     -- ---- the summary
-    one_figures : (one two : Figures) → AreKeyFigures source.content found.lines source.proposals one
+    one_figures : (one two : KeyFigures) → AreKeyFigures source.content found.lines source.proposals one
         → AreKeyFigures source.content other.lines source.proposals two → figures one ≡ figures two
     one_figures one two is its = ap figures (summary.figures source.content found.lines other.lines source.proposals one two lines_alike is its)
 

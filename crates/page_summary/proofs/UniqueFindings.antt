@@ -6,19 +6,18 @@ use Rattle.std.proofs.lemmas.List.{drop-map, length-map, take-map}
 use Rattle.desk_core.specs.declared.head.Head.{Head}
 use Rattle.desk_exports.specs.declared.entry.Clients.{Clients}
 use Rattle.desk_exports.specs.declared.entry.Clients.TheVariants.{Hosts, Net, Net6, World}
-use Rattle.desk_exports.specs.declared.entry.Terms.{Terms}
 use Rattle.desk_policy.specs.Policy.{Content}
 use Rattle.desk_tables.specs.declared.filesystems.Mount.{Mount}
 use Rattle.desk_text.specs.declared.address.Addr.{Addr}
 use Rattle.page_data.specs.Groups.{AreGrouped}
 use Rattle.page_data.specs.Laws.{IsSoundSite}
 use Rattle.page_data.specs.Reasons.{is_first, is_first_level, level_of_all}
-use Rattle.page_data.specs.Unique.{ReasonValue, reason_value}
+use Rattle.page_data.specs.Unique.{reason_value}
 use Rattle.page_data.specs.declared.reasons.Level.TheVariants.{LookFirst, Check}
 use Rattle.page_data.specs.declared.reasons.Reason.{Reason}
 use Rattle.page_data.specs.declared.reasons.Reason.TheVariants.{ServerGrantsMore}
 use Rattle.page_data.proofs.UniqueReasons.{by_kept, path_kept, reason_kept}
-use Rattle.page_html.specs.Items.{AndMore, Break, Item, Line, Number, Own, PartOf, Terms as TermsOf, items_html}
+use Rattle.page_html.specs.Items.{AndMore, Break, Item, Line, Number, Own, Terms as TermsOf, items_html}
 use Rattle.page_html.specs.Items as items
 use Rattle.page_html.specs.Blocks.{tag_html}
 use Rattle.page_html.specs.Tables.{Frame, row_html, table_start}
@@ -34,59 +33,40 @@ use Rattle.page_findings.specs.UniqueLaws.{KnownLine, LinesAreToldInOneWay, know
 use Rattle.page_findings.proofs.Alike.{known_standing, stands_by}
 use Rattle.page_findings.proofs.Mapped.{count_mapped, filter_mapped, map_twice}
 use Rattle.page_lists.proofs.Lent.{lend}
-use Rattle.page_summary.specs.Files.{line_in, name_of, text_in_force}
+use Rattle.page_summary.specs.Files.{text_in_force}
 use Rattle.page_summary.specs.FindingRows.{AreFindingRows, FindingTable, RowValue, findings_text, row_of, row_value}
 use Rattle.page_summary.specs.Findings as of_findings
-use Rattle.page_summary.specs.Findings.{counted_findings, counts, findings, findings_frame, fold_start, folded_rows, is_first_row, lines_html, more_frame, no_finding, open_and_folded, open_rows, place, places, table, what}
+use Rattle.page_summary.specs.Findings.{cells_with, counted_findings, counts, findings, findings_frame, fold_start, folded_rows, is_first_row, lines_html, more_frame, no_finding, open_and_folded, open_rows, place, places, table, what}
 use Rattle.page_summary.specs.SharedRows.{are_told_alike, told, told_of}
-use Rattle.page_summary.specs.SiteFinding.{deciding_for, finding_of, findings_among, is_for_network}
+use Rattle.page_summary.specs.SiteFinding.{finding_of, findings_among}
 use Rattle.page_summary.specs.declared.findings.FindingRow.{FindingRow}
 
--- ---- a line that stands out, by value, and made again of it
-record KnownRow : Type 0 where
-  fs : ℕ
-  line : ℕ
-  reasons : List ReasonValue
-  terms : Terms
-  is_for_network : Bool
-  deciding : List ℕ
-  clients : Clients
-  count : ℕ
-  system : List ℕ
-  text : List ℕ
+-- ---- a line that stands out, made again of its value
 
-abbrev known_row : FindingRow → KnownRow
-known_row row = record {
-  fs = row.finding.fs.0;
-  line = row.finding.line;
-  reasons = map reason_value row.finding.reasons.now;
-  terms = row.finding.terms.now;
-  is_for_network = row.finding.is_for_network;
-  deciding = row.finding.deciding.now;
-  clients = row.clients.now;
-  count = row.count;
-  system = row.system.now;
-  text = row.text.now;
-}
-
-abbrev row_again : KnownRow → FindingRow
-row_again known = record {
-  finding = record {
-    fs = record { 0 = known.fs };
-    line = known.line;
-    reasons = lend (map reason_kept known.reasons);
-    terms = lend known.terms;
-    is_for_network = known.is_for_network;
-    deciding = lend known.deciding;
+-- with these reasons
+abbrev row_with : RowValue → List Reason → FindingRow
+row_with value reasons = record {
+  told = record {
+    finding = record {
+      fs = record { 0 = value.told.fs };
+      line = value.told.line;
+      reasons = lend reasons;
+      terms = lend value.told.terms;
+      is_for_network = value.told.is_for_network;
+      deciding = lend value.told.deciding;
+    };
+    clients = lend value.told.clients;
+    count = value.told.count;
   };
-  clients = lend known.clients;
-  system = lend known.system;
-  text = lend known.text;
-  count = known.count;
+  system = lend value.system;
+  text = lend value.text;
 }
+
+abbrev row_again : RowValue → FindingRow
+row_again value = row_with value (map reason_kept (map reason_value value.told.reasons))
 
 abbrev fresh : FindingRow → FindingRow
-fresh row = row_again (known_row row)
+fresh row = row_again (row_value row)
 
 -- ---- why it stands out
 
@@ -96,8 +76,8 @@ wider_is : (fs line : ℕ) (address : Addr) (other : ℕ) (directory : Option (B
 wider_is fs line address other None = refl
 wider_is fs line address other (Some directory) = refl
 
-reason_is : (row : FindingRow) (reason : Reason) → reason_items row.finding reason ≡ reason_items (fresh row).finding (reason_kept (reason_value reason))
-reason_is row (ServerGrantsMore found) = wider_is row.finding.fs.0 found.line found.address found.other found.directory
+reason_is : (row : FindingRow) (reason : Reason) → reason_items row.told.finding reason ≡ reason_items (fresh row).told.finding (reason_kept (reason_value reason))
+reason_is row (ServerGrantsMore found) = wider_is row.told.finding.fs.0 found.line found.address found.other found.directory
 reason_is row reason = refl
 
 -- what is said of values, with a part between each two, is said of others of which the same is said
@@ -113,10 +93,10 @@ module _ {X : Type 0} (parts others_parts : X → List (Item (List ℕ))) (betwe
 abbrev reasons_again : List Reason → List Reason
 reasons_again reasons = map (λ reason. reason_kept (reason_value reason)) reasons
 
-items_is : (row : FindingRow) → finding_items row.finding ≡ finding_items (fresh row).finding
+items_is : (row : FindingRow) → finding_items row.told.finding ≡ finding_items (fresh row).told.finding
 items_is row =
-    joined_is (reason_items row.finding) (reason_items (fresh row).finding) comma (λ reason. reason_kept (reason_value reason)) (reason_is row) row.finding.reasons.now
-    ∙ ap (reasons_items (fresh row).finding) (sym (map_twice reason_value reason_kept row.finding.reasons.now))
+    joined_is (reason_items row.told.finding) (reason_items (fresh row).told.finding) comma (λ reason. reason_kept (reason_value reason)) (reason_is row) row.told.finding.reasons.now
+    ∙ ap (reasons_items (fresh row).told.finding) (sym (map_twice reason_value reason_kept row.told.finding.reasons.now))
 
 level_same : (reason : Reason) → is_first reason ≡ is_first (reason_kept (reason_value reason))
 level_same reason = by_kept is_first (λ found other same. refl) reason
@@ -125,8 +105,8 @@ any_same : (reasons : List Reason) → list_any is_first reasons ≡ list_any is
 any_same [] = refl
 any_same (reason ∷ reasons) = λ i. level_same reason i || any_same reasons i
 
-level_is : (row : FindingRow) → level_of_all row.finding.reasons.now ≡ level_of_all (fresh row).finding.reasons.now
-level_is row = λ i. if any_same row.finding.reasons.now i then LookFirst else Check
+level_is : (row : FindingRow) → level_of_all row.told.finding.reasons.now ≡ level_of_all (fresh row).told.finding.reasons.now
+level_is row = λ i. if any_same row.told.finding.reasons.now i then LookFirst else Check
 
 first_is : is_first_row ≡ (λ (row : FindingRow). is_first_row (fresh row))
 first_is = λ i row. is_first_level (level_is row i)
@@ -135,13 +115,13 @@ first_is = λ i row. is_first_level (level_is row i)
 
 told_for : (row : FindingRow) (clients : Clients) → told_of row clients ≡ told_of (fresh row) clients
 told_for row (Hosts names) =
-    ap (λ some. some ++ Own Break ∷ Own (TermsOf row.finding.terms.now) ∷ Own Break ∷ Own (Number row.count) ∷ Own Break ∷ map items.Code names) (items_is row)
+    ap (λ some. some ++ Own Break ∷ Own (TermsOf row.told.finding.terms.now) ∷ Own Break ∷ Own (Number row.told.count) ∷ Own Break ∷ map items.Code names) (items_is row)
 told_for row (Net net noted) = refl
 told_for row (Net6 value) = refl
 told_for row World = refl
 
 told_is : (row : FindingRow) → told row ≡ told (fresh row)
-told_is row = ap items_html (told_for row row.clients.now)
+told_is row = ap items_html (told_for row row.told.clients.now)
 
 alike_is : (row other : FindingRow) → are_told_alike row other ≡ are_told_alike (fresh row) (fresh other)
 alike_is row other = λ i. bytes_eq (told_is row i) (told_is other i)
@@ -195,7 +175,7 @@ lines_is frame (first ∷ others) =
     let lines = first ∷ others in
     let why = ap (λ (words : List (Item (List ℕ))). words ++ of_findings.shared (length lines) ++ Own Break ∷ Line first.text.now ∷ []) (items_is first)
     ∙ ap (λ count. what (fresh first) count) (sym (length-map lines fresh)) in
-    λ i. row_html frame ((level_item (level_is first i) ∷ []) ∷ places_is lines i ∷ why i ∷ (Own (PartOf first.count 4294967296) ∷ []) ∷ [])
+    λ i. row_html frame (cells_with first (level_item (level_is first i)) (places_is lines i) (why i))
 
 abbrev again : List (List FindingRow) → List (List FindingRow)
 again rows = map (map fresh) rows
@@ -233,41 +213,20 @@ counted_is lines =
 
 -- ---- of lines of a site
 
-abbrev known_of : RowValue → KnownRow
-known_of value = record {
-  fs = value.told.fs;
-  line = value.told.line;
-  reasons = map reason_value value.told.reasons;
-  terms = value.told.terms;
-  is_for_network = value.told.is_for_network;
-  deciding = value.told.deciding;
-  clients = value.told.clients;
-  count = value.told.count;
-  system = value.system;
-  text = value.text;
-}
+-- a line without its reasons
+abbrev plain_of : KnownLine → LineValue
+plain_of line = record { fs = line.fs; row = line.row; count = line.count; reasons = [] }
 
 module _ (table_of : List Mount) (texts : List (List (List ℕ))) (decided : List (List DecidedFor)) where
-  abbrev row_by : KnownLine → KnownRow
-  row_by line = record {
-    fs = line.fs;
-    line = line.row.entry.line;
-    reasons = line.reasons;
-    terms = line.row.entry.terms;
-    is_for_network = is_for_network line.row.entry.clients;
-    deciding = deciding_for decided line.fs line.row.entry.line;
-    clients = line.row.entry.clients;
-    count = line.count;
-    system = name_of table_of line.fs;
-    text = line_in texts line.fs line.row.entry.line;
-  }
+  abbrev row_by : KnownLine → FindingRow
+  row_by line = row_with (row_of table_of texts (finding_of decided (plain_of line))) (map reason_kept line.reasons)
 
   rows_by : (rows : List FindingRow) (found : List LineValue) → map row_value rows ≡ map (row_of table_of texts) (findings_among decided found)
-      → map known_row rows ≡ map row_by (filter stands_by (map known_line found))
+      → map fresh rows ≡ map row_by (filter stands_by (map known_line found))
   rows_by rows found told =
-      sym (map_twice row_value known_of rows) ∙ ap (map known_of) told
-      ∙ map_twice (row_of table_of texts) known_of (findings_among decided found)
-      ∙ map_twice (finding_of decided) (λ value. known_of (row_of table_of texts value)) (filter stands_out found)
+      sym (map_twice row_value row_again rows) ∙ ap (map row_again) told
+      ∙ map_twice (row_of table_of texts) row_again (findings_among decided found)
+      ∙ map_twice (finding_of decided) (λ value. row_again (row_of table_of texts value)) (filter stands_out found)
       ∙ sym (map_twice known_line row_by (filter stands_out found)) ∙ ap (map row_by) (known_standing found)
 
 pub one_text_of_findings : LinesAreToldInOneWay → (content : Content) (table : List Mount) (heads : List Head) (decided : List (List DecidedFor)) (lines others : List LineValue)
@@ -276,11 +235,10 @@ pub one_text_of_findings : LinesAreToldInOneWay → (content : Content) (table :
 one_text_of_findings law content mounts heads decided lines others findings other sound lines_are others_are are its =
     let texts = map (text_in_force heads) mounts in
     let alike = law.findings content lines others are.found its.found sound lines_are others_are are.are its.are in
-    let known = rows_by mounts texts decided findings.lines are.found are.told
+    let same : map fresh findings.lines ≡ map fresh other.lines =
+    rows_by mounts texts decided findings.lines are.found are.told
     ∙ ap (λ (some : List KnownLine). map (row_by mounts texts decided) (filter stands_by some)) alike
     ∙ sym (rows_by mounts texts decided other.lines its.found its.told) in
-    let same : map fresh findings.lines ≡ map fresh other.lines =
-    sym (map_twice known_row row_again findings.lines) ∙ ap (map row_again) known ∙ map_twice known_row row_again other.lines in
     let groups = one_grouping are_told_alike (map fresh findings.lines) (again findings.rows) (again other.rows) (grouped_again findings.lines findings.rows are.shared)
     (subst (λ (some : List FindingRow). AreGrouped are_told_alike some (again other.rows)) (sym same) (grouped_again other.lines other.rows its.shared)) in
     let counted = counted_is findings.lines ∙ ap counted_findings same ∙ sym (counted_is other.lines) in

@@ -4,7 +4,7 @@ use Rattle.page_html.specs.Blocks.{facts_html, tag_html}
 use Rattle.page_html.specs.Items.{Item, Number, Own, OwnPart, Small, SmallCount, SmallPlural, Words}
 use Rattle.page_html.specs.Tables.{Fact, Frame}
 use Rattle.page_html.specs.declared.blocks.Tag.TheVariants.{SummaryStart}
-use Rattle.page_summary.specs.declared.figures.Figures.{Figures}
+use Rattle.page_summary.specs.declared.figures.KeyFigures.{KeyFigures}
 
 -- the terms
 abbrev pub figures_frame : Frame
@@ -21,7 +21,7 @@ abbrev pub figure : ℕ → OwnPart → List (Item (List ℕ))
 figure count small = Own (Number count) ∷ Own (Words (codes " ")) ∷ Own small ∷ []
 
 -- how large the site is; what is granted to everybody, and where root is kept; and what else is counted
-abbrev pub facts : Figures → List (List (Item (List ℕ)))
+abbrev pub facts : KeyFigures → List (List (Item (List ℕ)))
 facts counted =
     figure counted.systems (SmallCount counted.guarded (codes "guarded"))
     ∷ figure counted.lines (SmallPlural counted.directories (codes "directory written") (codes "directories written"))
@@ -32,5 +32,5 @@ facts counted =
     ∷ figure counted.proposals (Small (codes "not in force")) ∷ []
 
 -- the beginning of the summary: all of them
-abbrev pub figures : Figures → List ℕ
+abbrev pub figures : KeyFigures → List ℕ
 figures counted = tag_html SummaryStart ++ facts_html figures_frame (facts counted)

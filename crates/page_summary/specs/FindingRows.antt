@@ -19,7 +19,7 @@ pub record RowValue : Type 0 where
 
 abbrev pub row_value : FindingRow → RowValue
 row_value row = record {
-  told = finding_value (record { finding = row.finding; clients = row.clients; count = row.count });
+  told = finding_value row.told;
   system = row.system.now;
   text = row.text.now;
 }

@@ -15,7 +15,7 @@ use Rattle.page_summary.specs.declared.findings.FindingRow.{FindingRow}
 
 -- a line is to be looked at first
 abbrev pub is_first_row : FindingRow → Bool
-is_first_row row = is_first_level (level_of_all row.finding.reasons.now)
+is_first_row row = is_first_level (level_of_all row.told.finding.reasons.now)
 
 -- how many lines are to be looked at first, and how many are to be checked; and what is said of the rules by which lines stand out
 abbrev pub counts : ℕ → ℕ → List ℕ
@@ -40,7 +40,7 @@ more_frame = record { class = codes "f"; is_titled = true; columns = columns }
 
 -- links to the file system of a line, and to the line
 abbrev pub place : FindingRow → List (Item (List ℕ))
-place line = System line.finding.fs.0 line.system.now ∷ Own (Words (codes " ")) ∷ Own (LineLink line.finding.fs.0 line.finding.line) ∷ []
+place line = System line.told.finding.fs.0 line.system.now ∷ Own (Words (codes " ")) ∷ Own (LineLink line.told.finding.fs.0 line.told.finding.line) ∷ []
 
 -- where lines stand: 4 at the most, and how many more there are
 abbrev pub some_places : List FindingRow → List (Item (List ℕ))
@@ -58,14 +58,16 @@ shared count = if count == 1 then [] else shared_by count
 
 -- why so many lines stand out, and the first of them as written
 abbrev pub what : FindingRow → ℕ → List (Item (List ℕ))
-what first count = finding_items first.finding ++ shared count ++ Own Break ∷ Line first.text.now ∷ []
+what first count = finding_items first.told.finding ++ shared count ++ Own Break ∷ Line first.text.now ∷ []
 
--- a row of lines that are told alike: the level, where they stand, why they stand out, and to how many of all addresses each grants
--- something
+-- the cells of a row of lines that are told alike, by the first of them, given the level, where they stand, and why they stand out; the last
+-- says to how many of all addresses each grants something
+abbrev pub cells_with : FindingRow → Item (List ℕ) → List (Item (List ℕ)) → List (Item (List ℕ)) → List (List (Item (List ℕ)))
+cells_with first level at why =
+    (level ∷ []) ∷ at ∷ why ∷ (Own (PartOf first.told.count 4294967296) ∷ []) ∷ []
+
 abbrev pub cells : FindingRow → List FindingRow → List (List (Item (List ℕ)))
-cells first lines =
-    (level_item (level_of_all first.finding.reasons.now) ∷ []) ∷ places lines ∷ what first (length lines)
-    ∷ (Own (PartOf first.count 4294967296) ∷ []) ∷ []
+cells first lines = cells_with first (level_item (level_of_all first.told.finding.reasons.now)) (places lines) (what first (length lines))
 
 abbrev pub lines_html : Frame → List FindingRow → List ℕ
 lines_html frame [] = []

@@ -6,6 +6,9 @@ use Rattle.page_html.specs.Tables.{Count, Frame, Name, Plain, rows_html, table_s
 use Rattle.page_html.specs.Titles.{Said}
 use Rattle.page_html.specs.declared.blocks.Tag.TheVariants.{TableEnd}
 use Rattle.page_lists.specs.Mentions.{some_items}
+use Rattle.page_lists.specs.Uses.{MentionValue}
+use Rattle.page_lists.proofs.Lent.{mention_of}
+use Rattle.page_summary.specs.FlavoursRows.{FlavoursValue, row_value}
 use Rattle.page_summary.specs.declared.flavours.FlavoursRow.{FlavoursRow}
 
 -- the table
@@ -18,14 +21,24 @@ flavours_frame = record {
       ∷ Plain (codes "File systems") ∷ [];
 }
 
--- a row: the flavours, as lines write them and in words, how many lines have them, how many of these are not read-only, and on which file
--- systems: 12 at the most, and how many more
-abbrev pub cells : FlavoursRow → List (List (Item (List ℕ)))
-cells row =
-    (Own (FlavourNames row.flavours.now) ∷ []) ∷ (Own (Flavours row.flavours.now) ∷ []) ∷ (Own (Number row.lines) ∷ [])
-    ∷ (Own (Number row.writable) ∷ []) ∷ some_items 12 row.systems.now ∷ []
+-- the file systems: 12 at the most, and how many more (to be joined: `some_of 12 systems` of page_lists)
+abbrev pub named_systems : List MentionValue → List (Item (List ℕ))
+named_systems systems = some_items 12 (map mention_of systems)
+
+-- the cells of a row, given the last: the flavours, as lines write them and in words, how many lines have them, how many of these are not
+-- read-only, and on which file systems
+abbrev pub cells_with : FlavoursValue → List (Item (List ℕ)) → List (List (Item (List ℕ)))
+cells_with row systems =
+    (Own (FlavourNames row.flavours) ∷ []) ∷ (Own (Flavours row.flavours) ∷ []) ∷ (Own (Number row.lines) ∷ [])
+    ∷ (Own (Number row.writable) ∷ []) ∷ systems ∷ []
+
+abbrev pub cells : FlavoursValue → List (List (Item (List ℕ)))
+cells row = cells_with row (named_systems row.systems)
+
+abbrev pub row_cells : FlavoursRow → List (List (Item (List ℕ)))
+row_cells row = cells (row_value row)
 
 abbrev pub flavours_table : List FlavoursRow → List ℕ
 flavours_table rows =
-    table_start flavours_frame (Said (codes "Security flavours of the lines that grant") ∷ []) ++ rows_html flavours_frame (map cells rows)
+    table_start flavours_frame (Said (codes "Security flavours of the lines that grant") ∷ []) ++ rows_html flavours_frame (map row_cells rows)
     ++ tag_html TableEnd

@@ -11,11 +11,11 @@ use Rattle.page_summary.specs.declared.findings.FindingRow.{FindingRow}
 -- of a line for written names: why it stands out in words, on what terms it grants something, to how many addresses, and the names
 abbrev pub told_of_names : FindingRow → List (List ℕ) → List (Item (List ℕ))
 told_of_names row names =
-    finding_items row.finding ++ Own Break ∷ Own (Terms row.finding.terms.now) ∷ Own Break ∷ Own (Number row.count) ∷ Own Break ∷ map Code names
+    finding_items row.told.finding ++ Own Break ∷ Own (Terms row.told.finding.terms.now) ∷ Own Break ∷ Own (Number row.told.count) ∷ Own Break ∷ map Code names
 
 -- of any other line: its place, which no other line has
 abbrev pub place_of : FindingRow → List (Item (List ℕ))
-place_of row = Own (LineLink row.finding.fs.0 row.finding.line) ∷ []
+place_of row = Own (LineLink row.told.finding.fs.0 row.told.finding.line) ∷ []
 
 abbrev pub told_of : FindingRow → Clients → List (Item (List ℕ))
 told_of row (Hosts names) = told_of_names row names
@@ -25,7 +25,7 @@ told_of row World = place_of row
 
 -- by this text lines are told apart
 abbrev pub told : FindingRow → List ℕ
-told row = items_html (told_of row row.clients.now)
+told row = items_html (told_of row row.told.clients.now)
 
 -- two lines are told alike
 abbrev pub are_told_alike : FindingRow → FindingRow → Bool

@@ -18,7 +18,7 @@ use Rattle.page_summary.specs.Header.{header}
 use Rattle.page_summary.specs.KeyFigures.{AreKeyFigures}
 use Rattle.page_summary.specs.State.{IsStateDigest}
 use Rattle.page_summary.specs.SystemRows.{AreOverviewRows, OverviewRows, SiteParts, overview_text}
-use Rattle.page_summary.specs.declared.figures.Figures.{Figures}
+use Rattle.page_summary.specs.declared.figures.KeyFigures.{KeyFigures}
 use Rattle.page_summary.specs.declared.flavours.FlavoursRow.{FlavoursRow}
 use Rattle.page_summary.specs.declared.header.Header.{Header}
 
@@ -39,7 +39,7 @@ pub record SummaryIsToldInOneWay : Type 0 where
   pub state : (standing : Standing) (digest other : List ℕ) → IsStateDigest standing digest → IsStateDigest standing other → digest ≡ other
   pub heading : (told other : Header) → told.database.now ≡ other.database.now → told.revisions ≡ other.revisions → told.files ≡ other.files
       → told.state.now ≡ other.state.now → header told ≡ header other
-  pub figures : (content : Content) (lines others : List LineValue) (proposals : List Proposal) (counted other : Figures) → AreAlike lines others
+  pub figures : (content : Content) (lines others : List LineValue) (proposals : List Proposal) (counted other : KeyFigures) → AreAlike lines others
       → AreKeyFigures content lines proposals counted → AreKeyFigures content others proposals other → counted ≡ other
   pub findings : (content : Content) (table : List Mount) (heads : List Head) (decided : List (List DecidedFor)) (lines others : List LineValue)
       (findings other : FindingTable) → IsSoundSite content → AreLinesOfSite content lines → AreLinesOfSite content others

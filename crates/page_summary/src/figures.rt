@@ -24,7 +24,7 @@ const FIGURES: Frame = Frame {
 
 /// The key figures of a site.
 #[derive(Clone, Copy)]
-pub struct Figures {
+pub struct KeyFigures {
     pub systems: u64,
     /// How many of the file systems are guarded.
     pub guarded: u64,
@@ -44,50 +44,38 @@ pub struct Figures {
 }
 
 /// Begins the summary, and adds the key figures.
-pub fn push_figures(alloc: Global, figures: &Figures, page: &mut String) -> Result<(), AllocError>
+pub fn push_figures(
+    alloc: Global,
+    figures: &KeyFigures,
+    page: &mut String,
+) -> Result<(), AllocError>
     ensures { OnOk result (string_bytes page.new ≡ string_bytes page.old ++ spec.figures figures.now) }
 {
     push_tag(Tag::SummaryStart, page)?;
-    let facts: [&[Part<'_>]; 7] = [
+    let space = Part::Words(" ");
+    let guarded = Part::SmallCount(figures.guarded, "guarded");
+    let directories = Part::SmallPlural(
+        figures.directories,
+        "directory written",
+        "directories written",
+    );
+    let writable = Part::SmallCount(figures.writable, "without -ro");
+    let for_many = Part::SmallCount(figures.root_for_many, "for networks or everybody");
+    let idle = Part::Small("they grant nothing; not counted in the two before");
+    let warnings = Part::Small("about words");
+    let proposals = Part::Small("not in force");
+    push_facts(
+        alloc,
+        &FIGURES,
         &[
-            Part::Number(figures.systems),
-            Part::Words(" "),
-            Part::SmallCount(figures.guarded, "guarded"),
+            &[Part::Number(figures.systems), space, guarded],
+            &[Part::Number(figures.lines), space, directories],
+            &[Part::Number(figures.for_everybody), space, writable],
+            &[Part::Number(figures.root_kept), space, for_many],
+            &[Part::Number(figures.idle), space, idle],
+            &[Part::Number(figures.warnings), space, warnings],
+            &[Part::Number(figures.proposals), space, proposals],
         ],
-        &[
-            Part::Number(figures.lines),
-            Part::Words(" "),
-            Part::SmallPlural(
-                figures.directories,
-                "directory written",
-                "directories written",
-            ),
-        ],
-        &[
-            Part::Number(figures.for_everybody),
-            Part::Words(" "),
-            Part::SmallCount(figures.writable, "without -ro"),
-        ],
-        &[
-            Part::Number(figures.root_kept),
-            Part::Words(" "),
-            Part::SmallCount(figures.root_for_many, "for networks or everybody"),
-        ],
-        &[
-            Part::Number(figures.idle),
-            Part::Words(" "),
-            Part::Small("they grant nothing; not counted in the two before"),
-        ],
-        &[
-            Part::Number(figures.warnings),
-            Part::Words(" "),
-            Part::Small("about words"),
-        ],
-        &[
-            Part::Number(figures.proposals),
-            Part::Words(" "),
-            Part::Small("not in force"),
-        ],
-    ];
-    push_facts(alloc, &FIGURES, &facts, page)
+        page,
+    )
 }

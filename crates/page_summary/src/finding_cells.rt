@@ -49,10 +49,10 @@ fn push_first(
         alloc,
         frame,
         &page_html::four_cells(
-            &[level_part(first.finding.level())],
+            &[level_part(first.told.finding.level())],
             places.as_slice(),
             what.as_slice(),
-            &[Part::PartOf(first.count, SPACE)],
+            &[Part::PartOf(first.told.count, SPACE)],
         ),
         page,
     )?;
@@ -103,9 +103,9 @@ fn push_place<'a>(line: &FindingRow<'a>, parts: &mut Vec<Part<'a>>) -> Result<()
     ensures { OnOk result (map item_of parts.new.items ≡ map item_of parts.old.items ++ spec.place line.now) }
 {
     let place = [
-        Part::System(line.finding.fs, line.system),
+        Part::System(line.told.finding.fs, line.system),
         Part::Words(" "),
-        Part::LineLink(line.finding.fs, line.finding.line),
+        Part::LineLink(line.told.finding.fs, line.told.finding.line),
     ];
     parts.extend_from_slice(&place)?;
     Ok(())
@@ -119,7 +119,7 @@ fn what_parts<'a>(
 ) -> Result<Vec<Part<'a>>, AllocError>
     ensures { IfOk result (λ parts. map item_of parts.items ≡ spec.what first.now count) }
 {
-    let mut parts = finding_parts(alloc, &first.finding)?;
+    let mut parts = finding_parts(alloc, &first.told.finding)?;
     push_shared(count, &mut parts)?;
     parts.push(Part::Break)?;
     parts.push(Part::Line(first.text))?;

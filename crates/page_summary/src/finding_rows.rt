@@ -69,12 +69,9 @@ fn finding_row<'a>(
 ) -> FindingRow<'a>
     ensures { row_value result ≡ spec.row_of table.now (map line_values texts.now) (finding_value one.now) }
 {
-    let finding = one.finding;
     FindingRow {
-        finding,
-        clients: one.clients,
-        system: name_of(table, finding.fs),
-        text: line_in(texts, finding.fs, finding.line),
-        count: one.count,
+        told: *one,
+        system: name_of(table, one.finding.fs),
+        text: line_in(texts, one.finding.fs, one.finding.line),
     }
 }

@@ -7,10 +7,9 @@ ghost use Rattle.page_html.specs.Tables.{frame_of};
 ghost use Rattle.page_summary.specs.Findings as spec;
 
 use crate::finding_cells::push_lines;
-use desk_exports::Clients;
+use crate::site_finding::SiteFinding;
 use desk_text::Sequence;
 use page_data::Level;
-use page_findings::Finding;
 use page_html::{
     Column, Element, Frame, Part, Tag, Title, push_element, push_table_start, push_tag,
 };
@@ -44,14 +43,12 @@ const MORE_FINDINGS: Frame = Frame {
     columns: COLUMNS,
 };
 
-/// A line that stands out, for whom it is, the name of its file system, its text, and to how many addresses it grants something.
+/// A line that stands out and what is told of it, the name of its file system, and its text.
 #[derive(Clone, Copy)]
 pub struct FindingRow<'a> {
-    pub finding: Finding<'a>,
-    pub clients: &'a Clients,
+    pub told: SiteFinding<'a>,
     pub system: &'a str,
     pub text: &'a str,
-    pub count: u64,
 }
 
 /// Adds how many lines are to be looked at first, and how many are to be checked.
@@ -89,7 +86,7 @@ fn count_first(rows: &[FindingRow<'_>]) -> usize
 fn is_first(row: &FindingRow<'_>) -> bool
     ensures { result ≡ spec.is_first_row row.now }
 {
-    match row.finding.level() {
+    match row.told.finding.level() {
         Level::LookFirst => true,
         Level::Check => false,
     }

@@ -57,7 +57,7 @@ pub fn push_flavours_table(
 /// Adds rows.
 #[tactic(auto, unfolding(page_html::specs::Tables::rows_html))]
 fn push_rows(alloc: Global, rows: &[FlavoursRow<'_>], page: &mut String) -> Result<(), AllocError>
-    ensures { OnOk result (string_bytes page.new ≡ string_bytes page.old ++ rows_html spec.flavours_frame (map spec.cells rows.now)) }
+    ensures { OnOk result (string_bytes page.new ≡ string_bytes page.old ++ rows_html spec.flavours_frame (map spec.row_cells rows.now)) }
 {
     for row in rows {
         push_flavours(alloc, row, page)?;
@@ -67,7 +67,7 @@ fn push_rows(alloc: Global, rows: &[FlavoursRow<'_>], page: &mut String) -> Resu
 
 /// Adds a row.
 fn push_flavours(alloc: Global, row: &FlavoursRow<'_>, page: &mut String) -> Result<(), AllocError>
-    ensures { OnOk result (string_bytes page.new ≡ string_bytes page.old ++ row_html spec.flavours_frame (spec.cells row.now)) }
+    ensures { OnOk result (string_bytes page.new ≡ string_bytes page.old ++ row_html spec.flavours_frame (spec.row_cells row.now)) }
 {
     let systems = some_parts(alloc, row.systems, MOST_SYSTEMS)?;
     push_row(

@@ -1,14 +1,15 @@
 //! The security flavours of the lines that grant something.
 
-ghost use Rattle.std.specs.Prelude.{◌≡◌, IfOk, List, OnOk, Some, length, map};
+ghost use Rattle.std.specs.Prelude.{◌≡◌, IfOk, List, OnOk, length, map};
 ghost use Rattle.std.specs.String.{string_bytes};
 ghost use Rattle.desk_tables.specs.declared.filesystems.Mount.{Mount};
 ghost use Rattle.page_findings.specs.Flavours.{use_value};
 ghost use Rattle.page_findings.specs.Lines.{line_value};
+ghost use Rattle.page_lists.specs.Uses.{mention_value};
 ghost use Rattle.page_summary.specs.FlavoursTable.{flavours_table};
 ghost use Rattle.page_summary.specs.Adding.{Adds};
 ghost use Rattle.page_summary.specs.FlavoursRows as spec;
-ghost use Rattle.page_summary.specs.FlavoursRows.{AreFlavoursRows, all_mentioned, all_named, row_value};
+ghost use Rattle.page_summary.specs.FlavoursRows.{AreFlavoursRows, all_mentioned, named_in, row_value};
 
 use crate::files::name_of;
 use crate::flavours::{FlavoursRow, push_flavours_table};
@@ -58,7 +59,7 @@ fn mentions_of<'a>(
     table: &'a FileSystems,
     systems: &[FsId],
 ) -> Result<Vec<Mention<'a>>, AllocError>
-    ensures { IfOk result (λ mentions. all_mentioned mentions.items ≡ all_named table.now (map (λ fs. fs.0) systems.now)) }
+    ensures { IfOk result (λ mentions. all_mentioned mentions.items ≡ map (named_in table.now) (map (λ fs. fs.0) systems.now)) }
 {
     let mut mentions = Vec::new(alloc);
     for fs in systems {
@@ -69,7 +70,7 @@ fn mentions_of<'a>(
 
 /// Makes what a cell says of a file system.
 fn mention_of<'a>(table: &'a FileSystems, fs: &FsId) -> Mention<'a>
-    ensures { spec.mentioned result ≡ Some (spec.named_in table.now fs.now.0) }
+    ensures { mention_value result ≡ named_in table.now fs.now.0 }
 {
     Mention::System(*fs, name_of(table, *fs))
 }
@@ -86,15 +87,22 @@ fn flavours_rows<'b>(
 {
     let mut rows = Vec::new(alloc);
     for place in 0..uses.len() {
-        let one = &uses[place];
-        rows.push(FlavoursRow {
-            flavours: flavours_of(one),
-            lines: one.lines as u64,
-            writable: one.read_write as u64,
-            systems: mentions[place].as_slice(),
-        })?;
+        rows.push(flavours_row(&uses[place], mentions[place].as_slice()))?;
     }
     Ok(rows)
+}
+
+/// Makes the row of flavours, given their file systems.
+fn flavours_row<'b>(one: &'b FlavourUse<'_>, systems: &'b [Mention<'_>]) -> FlavoursRow<'b>
+    ensures { (table : List Mount) → all_mentioned systems.now ≡ spec.systems_of table (use_value one.now)
+        → row_value result ≡ spec.row_of table (use_value one.now) }
+{
+    FlavoursRow {
+        flavours: flavours_of(one),
+        lines: one.lines as u64,
+        writable: one.read_write as u64,
+        systems,
+    }
 }
 
 /// Lends the flavours of lines.

@@ -8,11 +8,11 @@ ghost use Rattle.page_summary.specs.Figures as page_spec;
 ghost use Rattle.page_summary.specs.Adding.{Adds};
 ghost use Rattle.page_summary.specs.KeyFigures.{AreKeyFigures};
 
-use crate::figures::{Figures, push_figures};
+use crate::figures::{KeyFigures, push_figures};
 use desk_core::Proposal;
 use desk_policy::Policy;
 use desk_tables::Mount;
-use page_findings::{Figures as SiteFigures, SiteLine, figures_of_site};
+use page_findings::{Figures, SiteLine, figures_of_site};
 use std::alloc::{AllocError, Global};
 
 /// Begins the summary, and adds the key figures of a site, given the lines of all its file systems, and all proposals.
@@ -32,10 +32,10 @@ pub fn push_figures_of(
 }
 
 /// Gathers the key figures, given those that are counted over the lines.
-fn key_figures(policy: &Policy, counted: &SiteFigures, proposals: &[Proposal]) -> Figures
+fn key_figures(policy: &Policy, counted: &Figures, proposals: &[Proposal]) -> KeyFigures
     ensures { (lines : List LineValue) → AreFigures policy.now lines counted.now → AreKeyFigures policy.now lines proposals.now result }
 {
-    Figures {
+    KeyFigures {
         systems: counted.filesystems as u64,
         guarded: count_guarded(policy.filesystems().as_slice()) as u64,
         lines: counted.lines as u64,

@@ -31,7 +31,7 @@ pub mod system_rows;
 pub mod unique_laws;
 
 pub use amounts::revisions_and_files;
-pub use figures::{Figures, push_figures};
+pub use figures::{KeyFigures, push_figures};
 pub use finding_rows::push_findings_of;
 pub use findings::{FindingRow, push_counted_findings, push_findings};
 pub use flavours::{FlavoursRow, push_flavours_table};

@@ -114,9 +114,9 @@ fn told_text(alloc: Global, line: &FindingRow<'_>) -> Result<String, AllocError>
 
 /// Gathers the parts of that text.
 fn told_parts<'a>(alloc: Global, line: &FindingRow<'a>) -> Result<Vec<Part<'a>>, AllocError>
-    ensures { IfOk result (λ parts. map item_of parts.items ≡ spec.told_of line.now line.now.clients.now) }
+    ensures { IfOk result (λ parts. map item_of parts.items ≡ spec.told_of line.now line.now.told.clients.now) }
 {
-    match line.clients {
+    match line.told.clients {
         Clients::Hosts(names) => told_of_names(alloc, line, names),
         Clients::Net(_, _) | Clients::Net6(_) | Clients::World => place_of(alloc, line),
     }
@@ -130,12 +130,12 @@ fn told_of_names<'a>(
 ) -> Result<Vec<Part<'a>>, AllocError>
     ensures { IfOk result (λ parts. map item_of parts.items ≡ spec.told_of_names line.now names.now) }
 {
-    let mut parts = finding_parts(alloc, &line.finding)?;
+    let mut parts = finding_parts(alloc, &line.told.finding)?;
     let grants = [
         Part::Break,
-        Part::Terms(line.finding.terms),
+        Part::Terms(line.told.finding.terms),
         Part::Break,
-        Part::Number(line.count),
+        Part::Number(line.told.count),
         Part::Break,
     ];
     parts.extend_from_slice(&grants)?;
@@ -158,6 +158,6 @@ fn place_of<'a>(alloc: Global, line: &FindingRow<'a>) -> Result<Vec<Part<'a>>, A
     ensures { IfOk result (λ parts. map item_of parts.items ≡ spec.place_of line.now) }
 {
     let mut parts = Vec::new(alloc);
-    parts.push(Part::LineLink(line.finding.fs, line.finding.line))?;
+    parts.push(Part::LineLink(line.told.finding.fs, line.told.finding.line))?;
     Ok(parts)
 }

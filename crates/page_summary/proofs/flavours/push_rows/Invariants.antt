@@ -3,8 +3,8 @@ use Rattle.std.proofs.Common.{◌≡◌, ◌++◌, map, take}
 use Rattle.std.specs.List.{flat_map}
 use Rattle.std.specs.String.{string_bytes}
 use Rattle.page_html.specs.Tables.{row_html}
-use Rattle.page_summary.specs.FlavoursTable.{cells, flavours_frame}
+use Rattle.page_summary.specs.FlavoursTable.{flavours_frame, row_cells}
 use Rattle.page_summary.proofs.flavours.push_rows.Given as goal
 
 abbrev pub invariant-loop-row : goal.invariant-loop-row
-invariant-loop-row l = string_bytes l.page ≡ string_bytes l.initial.page ++ flat_map (row_html flavours_frame) (map cells (take l.row-index l.rows))
+invariant-loop-row l = string_bytes l.page ≡ string_bytes l.initial.page ++ flat_map (row_html flavours_frame) (map row_cells (take l.row-index l.rows))

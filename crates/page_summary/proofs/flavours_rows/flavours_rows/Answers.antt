@@ -1,26 +1,22 @@
-use Rattle.std.proofs.Common.{◌≡◌, ◌∙◌, List, Option, ap, map, sym, take_all}
+use Rattle.std.proofs.Common.{◌≡◌, ◌∙◌, ap, map, sym, take_all}
 use Rattle.page_findings.proofs.Mapped.{map_twice}
 use Rattle.page_findings.specs.Flavours.{use_value}
 use Rattle.page_findings.specs.declared.flavours.FlavourUse.{FlavourUse}
-use Rattle.page_summary.specs.FlavoursRows.{NamedSystem, all_mentioned, row_of, row_value, systems_of}
+use Rattle.page_summary.specs.FlavoursRows.{all_mentioned, row_of, row_value, systems_of}
 use Rattle.page_summary.proofs.Valued.{same_at, told_more}
 use Rattle.page_summary.proofs.flavours_rows.flavours_rows.Goals as goal
 
 pub loop-place-preserved : goal.loop-place-preserved
 loop-place-preserved c = λ table same.
     let uses = c.args.uses.now in
-    let mentions = c.args.mentions.now in
     let place = c.loop-place.place in
     let one = c.index-uses-place.result in
-    let own = c.index-mentions-place.result in
     let systems : all_mentioned c.as_slice.result.now ≡ systems_of table (use_value one) =
     ap all_mentioned c.as_slice.ensures
-    ∙ same_at all_mentioned (λ (other : FlavourUse). systems_of table (use_value other)) mentions uses place own one
+    ∙ same_at all_mentioned (λ (other : FlavourUse). systems_of table (use_value other)) c.args.mentions.now uses place c.index-mentions-place.result one
     (same ∙ map_twice use_value (systems_of table) uses) c.loop-place-test.true c.index-mentions-place.is c.index-uses-place.is in
-    told_more row_value (λ (other : FlavourUse). row_of table (use_value other)) uses place one c.loop-place.rows.items c.push.new.self.items _ c.loop-place-test.true
-    c.index-uses-place.is (c.loop-place.invariant table same) c.in_ok-push.ensures.items
-    (ap (λ fs. record { flavours = fs; lines = one.lines; writable = one.read_write; systems = all_mentioned c.as_slice.result.now }) c.flavours_of.ensures
-    ∙ ap (λ (some : List (Option NamedSystem)). record { flavours = one.flavours.now; lines = one.lines; writable = one.read_write; systems = some }) systems)
+    told_more row_value (λ (other : FlavourUse). row_of table (use_value other)) uses place one c.loop-place.rows.items c.push.new.self.items c.flavours_row.result
+    c.loop-place-test.true c.index-uses-place.is (c.loop-place.invariant table same) c.in_ok-push.ensures.items (c.flavours_row.ensures table systems)
 
 pub returns : goal.returns
 returns c = λ table same.

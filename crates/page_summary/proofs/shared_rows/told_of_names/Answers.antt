@@ -10,8 +10,8 @@ returns c =
     let line = c.args.line.now in
     let why = c.in_ok-parts.parts.items in
     let names = c.args.names.now in
-    let grants : List (Item (List ℕ)) = Own Break ∷ Own (Terms line.finding.terms.now) ∷ Own Break ∷ Own (Number line.count) ∷ Own Break ∷ [] in
+    let grants : List (Item (List ℕ)) = Own Break ∷ Own (Terms line.told.finding.terms.now) ∷ Own Break ∷ Own (Number line.told.count) ∷ Own Break ∷ [] in
     c.in_ok-push_names.ensures
     ∙ ap (λ (items : List (Item (List ℕ))). items ++ map Code names)
     (all_more item_of why c.extend_from_slice.new.self.items _ c.in_ok-extend_from_slice.ensures.items ∙ ap (λ (items : List (Item (List ℕ))). items ++ grants) c.in_ok-parts.ensures)
-    ∙ append_assoc (finding_items line.finding) grants (map Code names)
+    ∙ append_assoc (finding_items line.told.finding) grants (map Code names)
