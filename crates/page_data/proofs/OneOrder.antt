@@ -1,6 +1,6 @@
 -- A list in a strict order is told by what it has, and a list by the keys of its values, if each key has one value.
-use Rattle.std.proofs.Common.{◌≡◌, ℕ, suc, ◌∙◌, Bool, true, List, [], ◌∷◌, ap, arith, drop, get_or, inl, inr, length, map, nat_cmp, refl, subst, sym, true≢false}
-use Rattle.std.specs.Prelude.{All, Contains, filter}
+use Rattle.std.proofs.Common.{◌≡◌, ℕ, suc, ◌∙◌, true, List, [], ◌∷◌, ap, arith, drop, get_or, inl, inr, length, map, nat_cmp, refl, subst, sym, true≢false}
+use Rattle.std.specs.Prelude.{All, Contains}
 use Rattle.std.specs.Cmp.Lexicographic.{on_texts, slice_cmp}
 use Rattle.std.specs.List.{AllPairs}
 use Rattle.std.specs.Ordering.{is_lt, ordering_reverse}

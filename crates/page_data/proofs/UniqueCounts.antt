@@ -1,14 +1,11 @@
 -- The most that clients may is one class at each address, and classes have one count of each.
 use Rattle.std.proofs.Common.{◌≡◌, ℕ, ◌+◌, ◌-◌, ◌<◌, ◌≤◌, ◌^◌, ◌∙◌, Bool, List, ap, arith, length, refl, sym}
-use Rattle.std.specs.Prelude.{Contains, Result, filter}
+use Rattle.std.specs.Prelude.{Contains}
 use Rattle.std.specs.List.{range_with_len}
 use Rattle.std.proofs.lemmas.List.FromFn.{get_or-range_with_len, length-range_with_len}
 use Rattle.std.proofs.lemmas.List.Sums.{length-filter}
-use Rattle.desk_policy.specs.Verdict.{Grant}
-use Rattle.desk_policy.specs.declared.verdict.Denial.{Denial}
 use Rattle.desk_who.specs.Runs.{Run, RunsAreUnique}
 use Rattle.page_data.specs.Class.{class_of, same_class}
-use Rattle.page_data.specs.Classes.{AreClassesFrom}
 use Rattle.page_data.specs.Counts.{AreCounts, AreCountsFrom, class_count, count_within}
 use Rattle.page_data.specs.Grants.{HoldsOf}
 use Rattle.page_data.specs.Unique.{CountsAreUnique}

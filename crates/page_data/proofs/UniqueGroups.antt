@@ -1,6 +1,6 @@
 -- Values have one list of groups, and verdicts one table.
 use Rattle.std.proofs.Common.{◌≡◌, ◌<◌, ◌∙◌, Bool, List, [], ◌∷◌, Some, ap, arith, inl, inr, length, map, nat_lt, refl, subst, sym}
-use Rattle.std.specs.Prelude.{All, Contains, Result, filter, not, slice_get}
+use Rattle.std.specs.Prelude.{Contains, Result, filter, not, slice_get}
 use Rattle.std.proofs.lemmas.List.Elements.{All-contains}
 use Rattle.std.proofs.lemmas.Option.{same_Some}
 use Rattle.desk_policy.specs.Policy.{Content}

@@ -27,7 +27,7 @@ pub record ArePlainCells (cells : List (List (Item (List ℕ)))) : Type 0 where
   pub are : cells_have_no_picture cells ≡ true
 
 -- ---- tests
-both : (one other : Bool) → one ≡ true → other ≡ true → (if one then other else false) ≡ true
+pub both : (one other : Bool) → one ≡ true → other ≡ true → (if one then other else false) ≡ true
 both true other is so = so
 both false other is so = is
 

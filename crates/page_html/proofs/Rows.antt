@@ -1,8 +1,9 @@
--- The cells of a row, with one more.
-use Rattle.std.proofs.Common.{◌≡◌, ℕ, ◌+◌, ◌<◌, ◌++◌, ◌∙◌, List, [], ◌∷◌, ap, arith, get_or, length, map, refl, sym, take}
+-- The cells of a row, with one more, and those of a row whose last cells are empty.
+use Rattle.std.proofs.Common.{◌≡◌, ℕ, ◌+◌, ◌<◌, ◌≤◌, ◌++◌, ◌∙◌, List, [], ◌∷◌, ap, arith, drop, get_or, length, map, refl, sym, take}
 use Rattle.std.proofs.lemmas.List.{append-nil, append_assoc, get_or-map, length-map, length-take-le, take_all, take_more}
 use Rattle.page_html.specs.Items.{Item}
-use Rattle.page_html.specs.Tables.{Column, cell_html, cells_html}
+use Rattle.page_html.specs.PrivateTables.{empty_cell, empty_cells}
+use Rattle.page_html.specs.Tables.{Column, cell_html, cells_html, filled}
 
 pub cells_none : (page : List ℕ) → page ≡ page ++ cells_html [] []
 unfolding cells_html
@@ -66,3 +67,29 @@ lent_more column_of value columns cells i d x start now next same within is befo
     cells_more (map column_of columns) (map value cells) i e [] start now next many as_many before
     (added ∙ ap (λ cell. now ++ cell_html (column_of (get_or columns i d)) cell) read
     ∙ ap (λ one. now ++ cell_html one (get_or (map value cells) i [])) column)
+
+-- ---- a row whose last cells are empty
+none_filled : (columns : List Column) → empty_cells columns ≡ cells_html columns (filled columns [])
+unfolding cells_html empty_cells
+none_filled [] = refl
+none_filled (column ∷ columns) = ap (λ t. empty_cell column ++ t) (none_filled columns)
+
+some_filled : {C X : Type 0} (column_of : C → Column) (value : X → List (Item (List ℕ))) (columns : List C) (cells : List X) → length cells ≤ length columns
+    → cells_html (map column_of (take (length cells) columns)) (map value cells) ++ empty_cells (map column_of (drop (length cells) columns))
+    ≡ cells_html (map column_of columns) (filled (map column_of columns) (map value cells))
+unfolding cells_html
+some_filled column_of value columns [] within = none_filled (map column_of columns)
+some_filled column_of value [] (cell ∷ cells) within = absurd (omega arith)
+some_filled column_of value (column ∷ columns) (cell ∷ cells) within =
+    append_assoc (cell_html (column_of column) (value cell)) (cells_html (map column_of (take (length cells) columns)) (map value cells))
+    (empty_cells (map column_of (drop (length cells) columns)))
+    ∙ ap (λ t. cell_html (column_of column) (value cell) ++ t) (some_filled column_of value columns cells (omega arith))
+
+pub filled_all : {C X : Type 0} (column_of : C → Column) (value : X → List (Item (List ℕ))) (columns : List C) (cells : List X) (first rest : List C)
+    → length cells ≤ length columns → first ≡ take (length cells) columns → rest ≡ drop (length cells) columns
+    → cells_html (map column_of first) (map value cells) ++ empty_cells (map column_of rest)
+    ≡ cells_html (map column_of columns) (filled (map column_of columns) (map value cells))
+filled_all column_of value columns cells first rest within front back =
+    ap (λ some. cells_html (map column_of some) (map value cells) ++ empty_cells (map column_of rest)) front
+    ∙ ap (λ some. cells_html (map column_of (take (length cells) columns)) (map value cells) ++ empty_cells (map column_of some)) back
+    ∙ some_filled column_of value columns cells within

@@ -14,5 +14,6 @@ pub mod Escaping
 pub mod TextLaws
 pub mod Numbers
 pub mod Pieces
+pub mod PrivateTables
 pub mod Ranges
 pub mod Terms

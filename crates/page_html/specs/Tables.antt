@@ -64,6 +64,15 @@ row_in start frame cells = start ++ cells_html frame.columns cells ++ codes "</t
 abbrev pub row_html : Frame → List (List (Item (List ℕ))) → List ℕ
 row_html frame cells = row_in (codes "<tr>") frame cells
 
+-- a row whose last cells are empty: for each column that has no cell there is an empty one
+abbrev pub filled : List Column → List (List (Item (List ℕ))) → List (List (Item (List ℕ)))
+filled [] cells = []
+filled (column ∷ columns) [] = [] ∷ filled columns []
+filled (column ∷ columns) (items ∷ cells) = items ∷ filled columns cells
+
+abbrev pub short_row_html : Frame → List (List (Item (List ℕ))) → List ℕ
+short_row_html frame cells = row_html frame (filled frame.columns cells)
+
 -- a row that may stand out, and the row of a line of a file system, which links lead to
 abbrev pub mark_end : Bool → List ℕ
 mark_end is_marked = if is_marked then codes " class=\"hit\">" else codes ">"

@@ -1,8 +1,9 @@
 //! Tables of the page: each has its columns beside its cells.
 
-ghost use Rattle.std.specs.Prelude.{◌≡◌, ◌++◌, ◌∷◌, [], OnOk, length, map};
+ghost use Rattle.std.specs.Prelude.{◌≡◌, ◌≤◌, ◌++◌, ◌∷◌, [], OnOk, length, map};
 ghost use Rattle.std.specs.String.{string_bytes};
 ghost use Rattle.page_html.specs.Parts.{items_of};
+ghost use Rattle.page_html.specs.PrivateTables.{empty_cells};
 ghost use Rattle.page_html.specs.Tables as spec;
 ghost use Rattle.page_html.specs.Titles.{titles_of};
 
@@ -121,6 +122,36 @@ pub fn push_row(
     page.push_str("<tr>")?;
     push_cells(alloc, frame.columns, cells, page)?;
     page.push_str("</tr>\n")
+}
+
+/// Adds a row whose last cells are empty.
+pub fn push_short_row(
+    alloc: Global,
+    frame: &Frame,
+    cells: &[&[Part<'_>]],
+    page: &mut String,
+) -> Result<(), AllocError>
+    requires { length cells.now ≤ length frame.now.columns.now }
+    ensures { OnOk result (string_bytes page.new
+        ≡ string_bytes page.old ++ spec.short_row_html (spec.frame_of frame.now) (map (λ cell. items_of cell.now) cells.now)) }
+{
+    let (first, rest) = frame.columns.split_at(cells.len());
+    page.push_str("<tr>")?;
+    push_cells(alloc, first, cells, page)?;
+    push_empty_cells(alloc, rest, page)?;
+    page.push_str("</tr>\n")?;
+    Ok(())
+}
+
+/// Adds an empty cell for each column.
+#[tactic(auto, unfolding(crate::specs::PrivateTables::empty_cells))]
+fn push_empty_cells(alloc: Global, columns: &[Column], page: &mut String) -> Result<(), AllocError>
+    ensures { OnOk result (string_bytes page.new ≡ string_bytes page.old ++ empty_cells (map spec.column_of columns.now)) }
+{
+    for column in columns {
+        push_cell(alloc, *column, &[], page)?;
+    }
+    Ok(())
 }
 
 /// Adds a row that may stand out.

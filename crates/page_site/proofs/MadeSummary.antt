@@ -15,7 +15,7 @@ use Rattle.page_summary.specs.declared.flavours.FlavoursRow.{FlavoursRow}
 use Rattle.page_summary.specs.declared.header.Header.{Header}
 use Rattle.page_site.specs.MadeOfBlocks.{IsMadeOfBlocks}
 use Rattle.page_site.proofs.Made.{append_made, each_made, element_made, facts_made, fixed_made, if_made, nothing_made, table_made, tag_made}
-use Rattle.page_site.proofs.MadeLists.{some_items_plain}
+use Rattle.page_lists.proofs.Plain.{some_items_plain}
 use Rattle.page_html.proofs.Plain.{ArePlainCells, cells_cons, some_cells}
 
 -- ---- the header
