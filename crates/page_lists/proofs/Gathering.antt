@@ -1,7 +1,7 @@
 -- A list of values that gains more.
 use Rattle.std.proofs.Common.{◌≡◌, ◌<◌, ◌+◌, ◌++◌, ◌∙◌, ℕ, List, [], ◌∷◌, ap, append_assoc, get_or, length, map, sym, take}
 use Rattle.std.specs.List.{flat_map}
-use Rattle.std.proofs.lemmas.List.{flat_map_more, map-append, take_more}
+use Rattle.std.proofs.lemmas.List.{flat_map_more, map-append, map_more, take_more}
 
 module _ {X Y : Type 0} (f : X → Y) where
   -- one more value, and two more
@@ -21,6 +21,15 @@ gathers xs i d mark f start now one next below before marked added =
     let x = get_or xs i d in
     added ∙ ap (λ l. l ++ f x) marked ∙ append_assoc now (mark ∷ []) (f x) ∙ ap (λ l. l ++ (mark ∷ f x)) before
     ∙ flat_map_more (λ x. mark ∷ f x) start (take i xs) x ∙ ap (λ ys. start ++ flat_map (λ x. mark ∷ f x) ys) (sym (take_more xs i d below))
+
+-- the same of what the values are by value
+pub gathers_values : {X V Y : Type 0} (value_of : X → V) (xs : List X) (i : ℕ) (d : X) (mark : Y) (f : V → List Y) (start now one next : List Y) → i < length xs
+    → now ≡ start ++ flat_map (λ v. mark ∷ f v) (map value_of (take i xs)) → one ≡ now ++ mark ∷ [] → next ≡ one ++ f (value_of (get_or xs i d))
+    → next ≡ start ++ flat_map (λ v. mark ∷ f v) (map value_of (take (i + 1) xs))
+gathers_values value_of xs i d mark f start now one next below before marked added =
+    let v = value_of (get_or xs i d) in
+    added ∙ ap (λ l. l ++ f v) marked ∙ append_assoc now (mark ∷ []) (f v) ∙ ap (λ l. l ++ (mark ∷ f v)) before
+    ∙ flat_map_more (λ v. mark ∷ f v) start (map value_of (take i xs)) v ∙ ap (λ vs. start ++ flat_map (λ v. mark ∷ f v) vs) (sym (map_more value_of xs i d below))
 
 -- a cell of one part before others, and a value before others
 pub part_before : {Y : Type 0} (c d : Y) (cells others : List (List Y)) → c ≡ d → cells ≡ others → (c ∷ []) ∷ cells ≡ (d ∷ []) ∷ others

@@ -6,6 +6,7 @@ pub mod Keyed
 pub mod Lent
 pub mod Longest
 pub mod Mapped
+pub mod Plain
 mod Quoted
 mod Quoting
 pub mod Unique

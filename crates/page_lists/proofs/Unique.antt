@@ -1,5 +1,5 @@
 -- What is listed of a site is told in one way: each table depends on the values of its rows alone.
-use Rattle.std.proofs.Common.{◌≡◌, ℕ, ◌==◌, ◌++◌, ◌∙◌, Bool, Bor, List, [], ◌∷◌, Option, Some, None, ap, codes, length, map, option_map, refl, sym, if◌then◌else◌}
+use Rattle.std.proofs.Common.{◌≡◌, ℕ, ◌==◌, ◌++◌, ◌∙◌, List, [], ◌∷◌, ap, codes, length, map, refl, sym, if◌then◌else◌}
 use Rattle.std.proofs.lemmas.List.{length-map}
 use Rattle.std.proofs.lemmas.List.Elements.{All-contains}
 use Rattle.desk_core.specs.Listing.{AreHeldFiles, AreMountsWithExports, HeldFile, IsHeld, exports_file, seven_files}
@@ -10,8 +10,7 @@ use Rattle.desk_policy.specs.SiteFile.{exports_file_name}
 use Rattle.desk_policy.specs.declared.parsing.SiteTables.{SiteTables}
 use Rattle.desk_tables.specs.declared.filesystems.Mount.{Mount}
 use Rattle.page_html.specs.Blocks.{element_html, tag_html}
-use Rattle.page_html.specs.Items.{Code, Item, Number, Own, Words, Zero}
-use Rattle.page_html.specs.Ranges.{ends_of}
+use Rattle.page_html.specs.Items.{Item, Own, Words}
 use Rattle.page_html.specs.Tables.{rows_html, table_start}
 use Rattle.page_html.specs.Titles.{Said}
 use Rattle.page_html.specs.declared.blocks.Element.TheVariants.{Paragraph}
@@ -20,28 +19,22 @@ use Rattle.page_html.proofs.OneOrder.{one_text_order, told_alike}
 use Rattle.page_lists.specs.Files as of_files
 use Rattle.page_lists.specs.Files.{AddsFiles}
 use Rattle.page_lists.specs.Hosts as of_hosts
-use Rattle.page_lists.specs.Hosts.{AddsHosts, AreHostNames, host, host_frame}
+use Rattle.page_lists.specs.Hosts.{AddsHosts, AreHostNames, host_frame}
 use Rattle.page_lists.specs.NameIndex.{written_names}
 use Rattle.page_lists.specs.Netgroups as of_netgroups
-use Rattle.page_lists.specs.Netgroups.{AddsNetgroups, members_of, netgroup, netgroup_frame, no_netgroup}
-use Rattle.page_lists.specs.Tables.{long_end, long_start, number}
+use Rattle.page_lists.specs.Netgroups.{AddsNetgroups, netgroup_frame, no_netgroup}
+use Rattle.page_lists.specs.Tables.{long_end, long_start}
 use Rattle.page_lists.specs.UniqueLaws.{ListsAreToldInOneWay}
-use Rattle.page_lists.specs.Uses.{stands_for, written_by}
 use Rattle.page_lists.specs.Warnings as of_warnings
 use Rattle.page_lists.specs.Warnings.{AddsWarnings}
 use Rattle.page_lists.specs.declared.files.FileRow.{FileRow}
 use Rattle.page_lists.specs.declared.hosts.HostRow.{HostRow}
 use Rattle.page_lists.specs.declared.netgroups.NetgroupRow.{NetgroupRow}
 use Rattle.page_lists.specs.declared.warnings.WarningRow.{WarningRow}
-use Rattle.page_lists.proofs.Lent.{again, lend, mention_of, some_or_again, span_of, spans_again}
 
 -- lists of rows with the same values are as long
 as_many : {X V : Type 0} (value : X → V) (xs ys : List X) → map value xs ≡ map value ys → length xs ≡ length ys
 as_many value xs ys same = sym (length-map xs value) ∙ ap length same ∙ length-map ys value
-
--- what is said of a name that no line writes
-abbrev no_line : Item (List ℕ)
-no_line = Own (Zero (codes "no line"))
 
 -- ---- files
 
@@ -76,12 +69,6 @@ one_text_of_files table standing old text other adds its =
 
 -- ---- warnings
 
-abbrev warning_row : of_warnings.RowValue → WarningRow
-warning_row value = record { file = lend value.file; fs = value.fs; line = value.line; word = lend value.word; kind = value.kind }
-
-warning_cells : (row : WarningRow) → of_warnings.cells row ≡ of_warnings.cells (warning_row (of_warnings.row_value row))
-warning_cells row = refl
-
 abbrev warning_table : ℕ → List (List (List (Item (List ℕ)))) → List ℕ
 warning_table count cells =
     if count == 0 then element_html Paragraph (Own (Words (codes "No word has a warning.")) ∷ [])
@@ -90,36 +77,15 @@ warning_table count cells =
 
 one_warning_table : (rows others : List WarningRow) → map of_warnings.row_value rows ≡ map of_warnings.row_value others → of_warnings.warnings rows ≡ of_warnings.warnings others
 one_warning_table rows others same =
-    ap (λ count. warning_table count (map of_warnings.cells rows)) (as_many of_warnings.row_value rows others same)
-    ∙ ap (warning_table (length others))
-    (told_alike of_warnings.row_value of_warnings.cells (λ value. of_warnings.cells (warning_row value)) warning_cells rows others same)
+    let cells = λ (row : WarningRow). of_warnings.cells (of_warnings.row_value row) in
+    ap (λ count. warning_table count (map cells rows)) (as_many of_warnings.row_value rows others same)
+    ∙ ap (warning_table (length others)) (told_alike of_warnings.row_value cells of_warnings.cells (λ row. refl) rows others same)
 
 one_text_of_warnings : (content : Content) (old text other : List ℕ) → AddsWarnings content old text → AddsWarnings content old other → text ≡ other
 one_text_of_warnings content old text other adds its =
     adds.added ∙ ap (λ (told : List ℕ). old ++ told) (one_warning_table adds.rows its.rows (adds.are ∙ sym its.are)) ∙ sym its.added
 
 -- ---- netgroups
-
-abbrev netgroup_told : of_netgroups.RowValue → List (List (Item (List ℕ)))
-netgroup_told value =
-    (Code value.name ∷ []) ∷ (number value.line ∷ []) ∷ members_of (map mention_of value.members) ∷ (Own (Number value.hosts) ∷ [])
-    ∷ (Own (Number value.facts.addresses) ∷ []) ∷ (stands_for (map span_of value.facts.ranges) ∷ [])
-    ∷ written_by (map mention_of value.facts.uses) ∷ []
-
-netgroup_cells : (row : NetgroupRow) → netgroup row ≡ netgroup_told (of_netgroups.row_value row)
-netgroup_cells row =
-    let name = Code row.group.now.name ∷ [] in
-    let line = number row.group.now.line ∷ [] in
-    let hosts = Own (Number row.hosts) ∷ [] in
-    let addresses = Own (Number row.facts.addresses) ∷ [] in
-    let given = row.facts.ranges.items in
-    let uses = row.facts.uses.items in
-    let members = members_of (again row.members.items) in
-    let ranges = stands_for (map span_of (map ends_of given)) ∷ [] in
-    ap (λ told. name ∷ line ∷ told ∷ hosts ∷ addresses ∷ (stands_for given ∷ []) ∷ written_by uses ∷ [])
-    (some_or_again 8 (Own (Words (codes "-"))) row.members.items)
-    ∙ ap (λ spans. name ∷ line ∷ members ∷ hosts ∷ addresses ∷ (stands_for spans ∷ []) ∷ written_by uses ∷ []) (spans_again given)
-    ∙ ap (λ told. name ∷ line ∷ members ∷ hosts ∷ addresses ∷ ranges ∷ told ∷ []) (some_or_again 6 no_line uses)
 
 abbrev netgroup_table : ℕ → List (List (List (Item (List ℕ)))) → List ℕ
 netgroup_table count cells =
@@ -129,8 +95,9 @@ netgroup_table count cells =
 
 one_netgroup_table : (rows others : List NetgroupRow) → map of_netgroups.row_value rows ≡ map of_netgroups.row_value others → of_netgroups.netgroups rows ≡ of_netgroups.netgroups others
 one_netgroup_table rows others same =
-    ap (λ count. netgroup_table count (map netgroup rows)) (as_many of_netgroups.row_value rows others same)
-    ∙ ap (netgroup_table (length others)) (told_alike of_netgroups.row_value netgroup netgroup_told netgroup_cells rows others same)
+    let cells = λ (row : NetgroupRow). of_netgroups.cells (of_netgroups.row_value row) in
+    ap (λ count. netgroup_table count (map cells rows)) (as_many of_netgroups.row_value rows others same)
+    ∙ ap (netgroup_table (length others)) (told_alike of_netgroups.row_value cells of_netgroups.cells (λ row. refl) rows others same)
 
 one_text_of_netgroups : (content : Content) (tables : SiteTables) (old text other : List ℕ) → AddsNetgroups content tables old text → AddsNetgroups content tables old other → text ≡ other
 one_text_of_netgroups content tables old text other adds its =
@@ -144,22 +111,6 @@ one_list_of_names netgroups written names others are its =
     (λ name has. (let is = are.each name has in its.all name is.0 is.1))
     (λ name has. (let is = its.each name has in are.all name is.0 is.1))
 
-abbrev host_told : of_hosts.RowValue → List (List (Item (List ℕ)))
-host_told value =
-    (Code value.name ∷ []) ∷ (of_hosts.kind value.kind ∷ []) ∷ (Own (Number value.facts.addresses) ∷ [])
-    ∷ (stands_for (map span_of value.facts.ranges) ∷ []) ∷ written_by (map mention_of value.facts.uses) ∷ []
-
-host_cells : (row : HostRow) → host row ≡ host_told (of_hosts.row_value row)
-host_cells row =
-    let name = Code row.name.now ∷ [] in
-    let kind = of_hosts.kind (of_hosts.row_value row).kind ∷ [] in
-    let addresses = Own (Number row.facts.addresses) ∷ [] in
-    let given = row.facts.ranges.items in
-    let uses = row.facts.uses.items in
-    let ranges = stands_for (map span_of (map ends_of given)) ∷ [] in
-    ap (λ spans. name ∷ kind ∷ addresses ∷ (stands_for spans ∷ []) ∷ written_by uses ∷ []) (spans_again given)
-    ∙ ap (λ told. name ∷ kind ∷ addresses ∷ ranges ∷ told ∷ []) (some_or_again 6 no_line uses)
-
 abbrev host_table : ℕ → List (List (List (Item (List ℕ)))) → List ℕ
 host_table count cells =
     if count == 0 then []
@@ -168,8 +119,9 @@ host_table count cells =
 
 one_host_table : (rows others : List HostRow) → map of_hosts.row_value rows ≡ map of_hosts.row_value others → of_hosts.hosts rows ≡ of_hosts.hosts others
 one_host_table rows others same =
-    ap (λ count. host_table count (map host rows)) (as_many of_hosts.row_value rows others same)
-    ∙ ap (host_table (length others)) (told_alike of_hosts.row_value host host_told host_cells rows others same)
+    let cells = λ (row : HostRow). of_hosts.cells (of_hosts.row_value row) in
+    ap (λ count. host_table count (map cells rows)) (as_many of_hosts.row_value rows others same)
+    ∙ ap (host_table (length others)) (told_alike of_hosts.row_value cells of_hosts.cells (λ row. refl) rows others same)
 
 one_text_of_hosts : (content : Content) (tables : SiteTables) (old text other : List ℕ) → AddsHosts content tables old text → AddsHosts content tables old other → text ≡ other
 one_text_of_hosts content tables old text other adds its =

@@ -1,6 +1,7 @@
 -- The files of a site, and their newest revisions. (this project's own)
 use Rattle.std.specs.Prelude.{◌≡◌, ℕ, Bool, not, List, [], ◌∷◌, ◌++◌, Option, Some, None, codes, length, map, true, if◌then◌else◌}
 use Rattle.std.specs.Option.{option_map}
+use Rattle.std.specs.String.{string_bytes}
 use Rattle.desk_core.specs.Head.{Revision}
 use Rattle.desk_core.specs.Judging.{is_known}
 use Rattle.desk_core.specs.Listing.{AreHeldFiles, HeldFile, file_of, name_of}
@@ -54,14 +55,15 @@ abbrev pub profile : Option Head → Item (List ℕ)
 profile None = dash
 profile (Some head) = if is_of_seven head.file then dash else Own (Digits (profile_number head.profile))
 
--- how many bytes the text has, and the digest of them
+-- how many bytes the text has
 abbrev pub size : Option Head → Item (List ℕ)
 size None = dash
 size (Some head) = Own (Number (length head.body))
 
-abbrev pub digest : Option Head → List ℕ → Item (List ℕ)
-digest None of_text = dash
-digest (Some head) of_text = Digest of_text
+-- what else is told of it
+abbrev pub if_revised : Option Head → Item (List ℕ) → Item (List ℕ)
+if_revised None told = dash
+if_revised (Some head) told = told
 
 -- what is remarkable of a file: who proposes another text, and that it is the exports file of no file system that is listed
 abbrev pub unlisted_or : Bool → List ℕ → List ℕ → Item (List ℕ)
@@ -74,6 +76,10 @@ abbrev pub remark : Option (List ℕ) → Bool → List (Item (List ℕ))
 remark None is_unlisted = unlisted_or is_unlisted (codes "unlisted") (codes "-") ∷ Own Nothing ∷ Own Nothing ∷ []
 remark (Some name) is_unlisted = proposed_by name is_unlisted
 
+-- who proposes another text of a file
+abbrev pub proposer_of : HeldFile → Option (List ℕ)
+proposer_of file = option_map (λ proposal. proposal.author) file.proposal
+
 -- a row of the table by value: a file, its newest revision and the digest of its text, who proposes another text, and whether it is the
 -- exports file of no file system that is listed
 pub record RowValue : Type 0 where
@@ -83,24 +89,23 @@ pub record RowValue : Type 0 where
   pub proposer : Option (List ℕ)
   pub is_unlisted : Bool
 
--- what is told of a file
-abbrev pub row_with : HeldFile → List ℕ → Bool → RowValue
-row_with file digest is_unlisted = record {
-  file = name_of file;
-  head = file.newest;
-  digest = digest;
-  proposer = option_map (λ proposal. proposal.author) file.proposal;
-  is_unlisted = is_unlisted;
+abbrev pub row_value : FileRow → RowValue
+row_value row = record {
+  file = name_of (file_of row.file);
+  head = (file_of row.file).newest;
+  digest = string_bytes row.digest;
+  proposer = proposer_of (file_of row.file);
+  is_unlisted = row.is_unlisted;
 }
 
-abbrev pub row_value : FileRow → RowValue
-row_value row = row_with (file_of row.file) row.digest.now row.is_unlisted
-
 -- the cells of a row: its name, what is told of its newest revision, if it has one, and what is remarkable
+abbrev pub cells_with : Option Revision → RowValue → List (List (Item (List ℕ)))
+cells_with newest row =
+    (Code row.file ∷ []) ∷ (revision newest ∷ []) ∷ (author newest ∷ []) ∷ (approver newest ∷ []) ∷ (profile newest ∷ [])
+    ∷ (size newest ∷ []) ∷ (if_revised newest (Digest row.digest) ∷ []) ∷ remark row.proposer row.is_unlisted ∷ []
+
 abbrev pub cells : RowValue → List (List (Item (List ℕ)))
-cells row =
-    (Code row.file ∷ []) ∷ (revision row.head ∷ []) ∷ (author row.head ∷ []) ∷ (approver row.head ∷ []) ∷ (profile row.head ∷ [])
-    ∷ (size row.head ∷ []) ∷ (digest row.head row.digest ∷ []) ∷ remark row.proposer row.is_unlisted ∷ []
+cells row = cells_with row.head row
 
 -- the files, folded if there are more than 40
 abbrev pub files : List FileRow → List ℕ
@@ -113,8 +118,15 @@ abbrev pub newest_digest : Option Revision → List ℕ
 newest_digest None = []
 newest_digest (Some revision) = text_digest revision.body
 
+-- what is told of a file, where these file systems are listed
 abbrev pub row_of : List Mount → HeldFile → RowValue
-row_of table file = row_with file (newest_digest file.newest) (not (is_known table (name_of file)))
+row_of table file = record {
+  file = name_of file;
+  head = file.newest;
+  digest = newest_digest file.newest;
+  proposer = proposer_of file;
+  is_unlisted = not (is_known table (name_of file));
+}
 
 -- These are the rows of the files that have a revision or a proposal, in their order.
 pub record AreFileRows (table : List Mount) (standing : Standing) (rows : List FileRow) : Type 0 where

@@ -14,9 +14,10 @@ use Rattle.page_html.specs.Items.{Item, Number, Words, Own, Code}
 use Rattle.page_html.specs.Tables.{Count, Frame, Name, Plain, rows_html, table_start}
 use Rattle.page_html.specs.Titles.{Said}
 use Rattle.page_html.specs.declared.blocks.Tag.TheVariants.{TableEnd}
+use Rattle.page_lists.specs.NameCells.{stands_for, written_by}
 use Rattle.page_lists.specs.NameIndex.{written_names}
 use Rattle.page_lists.specs.Tables.{long_end, long_start}
-use Rattle.page_lists.specs.Uses.{NameValue, facts_of, facts_value, stands_for, written_by}
+use Rattle.page_lists.specs.Uses.{NameValue, facts_of, facts_value}
 use Rattle.page_lists.specs.declared.hosts.HostKind.{HostKind}
 use Rattle.page_lists.specs.declared.hosts.HostKind.TheVariants.{Ipv6, Known, Unknown}
 use Rattle.page_lists.specs.declared.hosts.HostRow.{HostRow}
@@ -46,24 +47,24 @@ pub record RowValue : Type 0 where
 abbrev pub kind_of : List ℕ → ℕ → HostKind
 kind_of name addresses = if not (addresses == 0) then Known else if is_ipv6 name then Ipv6 else Unknown
 
--- what is told of the name of a host
-abbrev pub row_with : List ℕ → NameValue → RowValue
-row_with name facts = record { name = name; kind = kind_of name facts.addresses; facts = facts }
-
 abbrev pub row_value : HostRow → RowValue
-row_value row = row_with row.name.now (facts_value row.facts)
+row_value row = record {
+  name = row.name.now;
+  kind = kind_of row.name.now row.facts.addresses;
+  facts = facts_value row.facts;
+}
 
--- the name of a host: what it is, for how many addresses, and which, it stands, and the lines that write it
-abbrev pub host : HostRow → List (List (Item (List ℕ)))
-host row =
-    (Code row.name.now ∷ []) ∷ (kind (row_value row).kind ∷ []) ∷ (Own (Number row.facts.addresses) ∷ [])
-    ∷ (stands_for row.facts.ranges.items ∷ []) ∷ written_by row.facts.uses.items ∷ []
+-- the cells of a row: a name, what it is, for how many addresses, and which, it stands, and the lines that write it
+abbrev pub cells : RowValue → List (List (Item (List ℕ)))
+cells row =
+    (Code row.name ∷ []) ∷ (kind row.kind ∷ []) ∷ (Own (Number row.facts.addresses) ∷ []) ∷ (stands_for row.facts.ranges ∷ [])
+    ∷ written_by row.facts.uses ∷ []
 
 -- names of hosts, folded if there are more than 24
 abbrev pub some_hosts : List HostRow → List ℕ
 some_hosts rows =
     long_start 24 (length rows) (codes "name") (codes "names") ++ table_start host_frame (Said (codes "Names of hosts that lines write") ∷ [])
-    ++ rows_html host_frame (map host rows) ++ tag_html TableEnd ++ long_end 24 (length rows)
+    ++ rows_html host_frame (map (λ row. cells (row_value row)) rows) ++ tag_html TableEnd ++ long_end 24 (length rows)
 
 -- the names, if lines write any
 abbrev pub hosts : List HostRow → List ℕ
@@ -79,8 +80,13 @@ pub record AreHostNames (netgroups : List GroupLine) (written names : List (List
   pub each : (name : List ℕ) → Contains names name → Contains written name × (is_host_name netgroups name ≡ true)
   pub all : (name : List ℕ) → Contains written name → is_host_name netgroups name ≡ true → Contains names name
 
+-- what is told of the name of a host
 abbrev pub row_of : Content → SiteTables → List ℕ → RowValue
-row_of content tables name = row_with name (facts_of content tables name)
+row_of content tables name = record {
+  name = name;
+  kind = kind_of name (facts_of content tables name).addresses;
+  facts = facts_of content tables name;
+}
 
 -- These are the rows of the names of hosts that lines write, in byte order.
 pub record AreHostRows (content : Content) (tables : SiteTables) (rows : List HostRow) : Type 0 where

@@ -4,9 +4,9 @@ pub mod Hosts
 pub mod Laws
 pub mod MakingAgain
 pub mod Mentions
+pub mod NameCells
 pub mod NameIndex
 pub mod Netgroups
-pub mod PrivateFiles
 pub mod PrivateHosts
 pub mod Ranges
 pub mod Reading

@@ -14,13 +14,13 @@ use Rattle.page_html.specs.Titles.{Said}
 use Rattle.page_html.specs.declared.blocks.Element.TheVariants.{Paragraph}
 use Rattle.page_html.specs.declared.blocks.Tag.TheVariants.{TableEnd}
 use Rattle.page_lists.specs.Mentions.{some_or}
+use Rattle.page_lists.specs.NameCells.{stands_for, written_by}
 use Rattle.page_lists.specs.Tables.{long_end, long_start, number}
-use Rattle.page_lists.specs.Uses.{MentionValue, NameValue, OfGroup, OfHost, facts_of, facts_value, mention_value, stands_for, written_by}
-use Rattle.page_lists.specs.declared.mentions.Mention.{Mention}
+use Rattle.page_lists.specs.Uses.{MentionValue, NameValue, OfGroup, OfHost, facts_of, facts_value, mention_value}
 use Rattle.page_lists.specs.declared.netgroups.NetgroupRow.{NetgroupRow}
 
 -- the members of a netgroup: 8 at the most, and how many more
-abbrev pub members_of : List Mention → List (Item (List ℕ))
+abbrev pub members_of : List MentionValue → List (Item (List ℕ))
 members_of members = some_or 8 (Own (Words (codes "-"))) members
 
 -- the table of netgroups
@@ -32,26 +32,6 @@ netgroup_frame = record {
       Name (codes "Name") ∷ Count (codes "Line") ∷ Plain (codes "Hosts and groups in it") ∷ Count (codes "Host names")
       ∷ Count (codes "Addresses") ∷ Plain (codes "Stands for") ∷ Plain (codes "Written by") ∷ [];
 }
-
--- a netgroup: its name, its line and its members; how many names of hosts are in it, and for how many addresses, and which, it stands;
--- and the lines that write it
-abbrev pub netgroup : NetgroupRow → List (List (Item (List ℕ)))
-netgroup row =
-    (Code row.group.now.name ∷ []) ∷ (number row.group.now.line ∷ []) ∷ members_of row.members.items ∷ (Own (Number row.hosts) ∷ [])
-    ∷ (Own (Number row.facts.addresses) ∷ []) ∷ (stands_for row.facts.ranges.items ∷ []) ∷ written_by row.facts.uses.items ∷ []
-
--- netgroups, folded if there are more than 24
-abbrev pub some_netgroups : List NetgroupRow → List ℕ
-some_netgroups rows =
-    long_start 24 (length rows) (codes "netgroup") (codes "netgroups") ++ table_start netgroup_frame (Said (codes "Netgroups") ∷ [])
-    ++ rows_html netgroup_frame (map netgroup rows) ++ tag_html TableEnd ++ long_end 24 (length rows)
-
--- the netgroups, if there are any
-abbrev pub no_netgroup : List ℕ
-no_netgroup = element_html Paragraph (Own (Words (codes "The table ")) ∷ Own (Word (codes "netgroup")) ∷ Own (Words (codes " has none.")) ∷ [])
-
-abbrev pub netgroups : List NetgroupRow → List ℕ
-netgroups rows = if length rows == 0 then no_netgroup else some_netgroups rows
 
 -- a row of the table by value: a netgroup with its line, its members, how many names of hosts are in it, and what is told of its name
 pub record RowValue : Type 0 where
@@ -69,6 +49,26 @@ row_value row = record {
   hosts = row.hosts;
   facts = facts_value row.facts;
 }
+
+-- the cells of a row: a name, its line and its members; how many names of hosts are in it, and for how many addresses, and which, it stands;
+-- and the lines that write it
+abbrev pub cells : RowValue → List (List (Item (List ℕ)))
+cells row =
+    (Code row.name ∷ []) ∷ (number row.line ∷ []) ∷ members_of row.members ∷ (Own (Number row.hosts) ∷ [])
+    ∷ (Own (Number row.facts.addresses) ∷ []) ∷ (stands_for row.facts.ranges ∷ []) ∷ written_by row.facts.uses ∷ []
+
+-- netgroups, folded if there are more than 24
+abbrev pub some_netgroups : List NetgroupRow → List ℕ
+some_netgroups rows =
+    long_start 24 (length rows) (codes "netgroup") (codes "netgroups") ++ table_start netgroup_frame (Said (codes "Netgroups") ∷ [])
+    ++ rows_html netgroup_frame (map (λ row. cells (row_value row)) rows) ++ tag_html TableEnd ++ long_end 24 (length rows)
+
+-- the netgroups, if there are any
+abbrev pub no_netgroup : List ℕ
+no_netgroup = element_html Paragraph (Own (Words (codes "The table ")) ∷ Own (Word (codes "netgroup")) ∷ Own (Words (codes " has none.")) ∷ [])
+
+abbrev pub netgroups : List NetgroupRow → List ℕ
+netgroups rows = if length rows == 0 then no_netgroup else some_netgroups rows
 
 abbrev pub member_value : Member → MentionValue
 member_value (Host name) = OfHost name

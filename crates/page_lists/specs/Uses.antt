@@ -1,15 +1,12 @@
 -- What a written name stands for, and the lines that write it. (this project's own, over exports(5), netgroup(5) and hosts(5))
-use Rattle.std.specs.Prelude.{ℕ, ◌==◌, List, [], ◌∷◌, Option, Some, None, codes, length, map, slice_get, if◌then◌else◌}
+use Rattle.std.specs.Prelude.{ℕ, List, [], ◌∷◌, Option, Some, None, length, map, slice_get}
 use Rattle.std.specs.Option.{option_map}
 use Rattle.desk_text.specs.Path.{path_text}
 use Rattle.desk_tables.specs.declared.filesystems.Mount.{Mount}
 use Rattle.page_html.specs.Ranges.{Ends, ends_of}
-use Rattle.page_html.specs.declared.ranges.Span.{Span}
 use Rattle.desk_policy.specs.Names.{addresses_of_names}
 use Rattle.desk_policy.specs.Policy.{Content}
 use Rattle.desk_policy.specs.declared.parsing.SiteTables.{SiteTables}
-use Rattle.page_html.specs.Items.{Item, Ranges, Strong, Zero, Own}
-use Rattle.page_lists.specs.Mentions.{some_or}
 use Rattle.page_lists.specs.NameIndex.{WrittenValue, lines_with}
 use Rattle.page_lists.specs.Ranges.{ranges_of}
 use Rattle.page_lists.specs.declared.mentions.Mention.{Mention}
@@ -64,11 +61,3 @@ facts_of content tables name = record {
   ranges = ranges_of (addresses_named tables name);
   uses = uses_of content name;
 }
-
--- the addresses that a name stands for
-abbrev pub stands_for : List Span → Item (List ℕ)
-stands_for ranges = if length ranges == 0 then Own (Strong (codes "nobody")) else Own (Ranges ranges)
-
--- the lines that write a name: 6 at the most, and how many more
-abbrev pub written_by : List Mention → List (Item (List ℕ))
-written_by uses = some_or 6 (Own (Zero (codes "no line"))) uses

@@ -37,22 +37,6 @@ name kind = Own (Words (kind_name kind))
 abbrev pub meaning : WarningKind → Item (List ℕ)
 meaning kind = Own (Words (kind_sentence kind))
 
--- a row: the file, the line, the word, and what is odd about it
-abbrev pub cells : WarningRow → List (List (Item (List ℕ)))
-cells row =
-    (Code row.file.now ∷ []) ∷ line row.fs row.line ∷ (Code row.word.now ∷ []) ∷ (name row.kind ∷ []) ∷ (meaning row.kind ∷ []) ∷ []
-
--- warnings, folded if there are more than 24
-abbrev pub some_warnings : List WarningRow → List ℕ
-some_warnings rows =
-    long_start 24 (length rows) (codes "warning") (codes "warnings") ++ table_start frame (Said (codes "Warnings about words") ∷ [])
-    ++ rows_html frame (map cells rows) ++ tag_html TableEnd ++ long_end 24 (length rows)
-
--- the warnings, if there are any
-abbrev pub warnings : List WarningRow → List ℕ
-warnings rows =
-    if length rows == 0 then element_html Paragraph (Own (Words (codes "No word has a warning.")) ∷ []) else some_warnings rows
-
 -- a row of the table by value: a file, and its file system if it is the exports file of one; a line of it, and the word that is odd
 pub record RowValue : Type 0 where
   pub file : List ℕ
@@ -63,6 +47,22 @@ pub record RowValue : Type 0 where
 
 abbrev pub row_value : WarningRow → RowValue
 row_value row = record { file = row.file.now; fs = row.fs; line = row.line; word = row.word.now; kind = row.kind }
+
+-- the cells of a row: the file, the line, the word, and what is odd about it
+abbrev pub cells : RowValue → List (List (Item (List ℕ)))
+cells row =
+    (Code row.file ∷ []) ∷ line row.fs row.line ∷ (Code row.word ∷ []) ∷ (name row.kind ∷ []) ∷ (meaning row.kind ∷ []) ∷ []
+
+-- warnings, folded if there are more than 24
+abbrev pub some_warnings : List WarningRow → List ℕ
+some_warnings rows =
+    long_start 24 (length rows) (codes "warning") (codes "warnings") ++ table_start frame (Said (codes "Warnings about words") ∷ [])
+    ++ rows_html frame (map (λ row. cells (row_value row)) rows) ++ tag_html TableEnd ++ long_end 24 (length rows)
+
+-- the warnings, if there are any
+abbrev pub warnings : List WarningRow → List ℕ
+warnings rows =
+    if length rows == 0 then element_html Paragraph (Own (Words (codes "No word has a warning.")) ∷ []) else some_warnings rows
 
 -- the file system whose exports file has this name
 abbrev pub filesystem_of : List Mount → List ℕ → Option FsId

@@ -8,7 +8,6 @@ ghost use Rattle.desk_core.specs.Standing.{standing_in};
 ghost use Rattle.page_html.specs.Parts.{item_of};
 ghost use Rattle.page_html.specs.Tables.{row_html, rows_html};
 ghost use Rattle.page_lists.specs.Files as spec;
-ghost use Rattle.page_lists.specs.PrivateFiles.{digested_row};
 
 use crate::digests::text_digest;
 use crate::tables::{number_of, push_long_end, push_long_start};
@@ -40,19 +39,11 @@ const FILES: Frame = Frame {
 
 /// A file that has a revision or a proposal, with the digest of the text of its newest revision, and whether it is the exports file of no
 /// file system that is listed.
-#[derive(Clone, Copy)]
+#[derive(Drop)]
 pub struct FileRow<'a> {
     pub file: HeldFile<'a>,
-    pub digest: &'a str,
+    pub digest: String,
     pub is_unlisted: bool,
-}
-
-/// The same, as it is made.
-#[derive(Drop)]
-struct DigestedFile<'a> {
-    file: HeldFile<'a>,
-    digest: String,
-    is_unlisted: bool,
 }
 
 /// Adds the table of the files that have one of these newest revisions or proposals, where these file systems are listed.
@@ -66,37 +57,36 @@ pub fn push_files_of(
     ensures { OnOk result (spec.AddsFiles filesystems.now (standing_in heads.now proposals.now) (string_bytes page.old) (string_bytes page.new)) }
 {
     let files = held_files(alloc, heads, proposals)?;
-    let digested = digested_files(alloc, filesystems, files.as_slice())?;
-    let rows = file_rows(alloc, digested.as_slice())?;
+    let rows = file_rows(alloc, filesystems, files.as_slice())?;
     push_files(alloc, rows.as_slice(), page)
 }
 
-/// Makes the digests of the texts of files.
-fn digested_files<'a>(
+/// Makes the rows of files.
+fn file_rows<'a>(
     alloc: Global,
     filesystems: &FileSystems,
     files: &[HeldFile<'a>],
-) -> Result<Vec<DigestedFile<'a>>, AllocError>
-    ensures { IfOk result (λ digested. map digested_row digested.items ≡ map (spec.row_of filesystems.now) (map file_of files.now)) }
+) -> Result<Vec<FileRow<'a>>, AllocError>
+    ensures { IfOk result (λ rows. map spec.row_value rows.items ≡ map (spec.row_of filesystems.now) (map file_of files.now)) }
 {
-    let mut digested = Vec::new(alloc);
+    let mut rows = Vec::new(alloc);
     for file in files {
-        digested.push(digested_file(alloc, filesystems, *file)?)?;
+        rows.push(file_row(alloc, filesystems, *file)?)?;
     }
-    Ok(digested)
+    Ok(rows)
 }
 
-/// Makes the digest of the text of a file.
-fn digested_file<'a>(
+/// Makes the row of a file.
+fn file_row<'a>(
     alloc: Global,
     filesystems: &FileSystems,
     file: HeldFile<'a>,
-) -> Result<DigestedFile<'a>, AllocError>
-    ensures { IfOk result (λ digested. digested_row digested ≡ spec.row_of filesystems.now (file_of file.entry)) }
+) -> Result<FileRow<'a>, AllocError>
+    ensures { IfOk result (λ row. spec.row_value row ≡ spec.row_of filesystems.now (file_of file.entry)) }
 {
     let digest = newest_digest(alloc, file.newest)?;
     let is_unlisted = !is_known(filesystems, file.name());
-    Ok(DigestedFile {
+    Ok(FileRow {
         file,
         digest,
         is_unlisted,
@@ -110,31 +100,6 @@ fn newest_digest(alloc: Global, newest: Option<&Head>) -> Result<String, AllocEr
     match newest {
         None => Ok(String::new(alloc)),
         Some(head) => text_digest(alloc, head.body.as_str()),
-    }
-}
-
-/// Makes the rows of files.
-fn file_rows<'b>(
-    alloc: Global,
-    files: &'b [DigestedFile<'_>],
-) -> Result<Vec<FileRow<'b>>, AllocError>
-    ensures { IfOk result (λ rows. map spec.row_value rows.items ≡ map digested_row files.now) }
-{
-    let mut rows = Vec::new(alloc);
-    for file in files {
-        rows.push(file_row(file))?;
-    }
-    Ok(rows)
-}
-
-/// Makes the row of a file.
-fn file_row<'b>(digested: &'b DigestedFile<'_>) -> FileRow<'b>
-    ensures { spec.row_value result ≡ digested_row digested.now }
-{
-    FileRow {
-        file: digested.file,
-        digest: digested.digest.as_str(),
-        is_unlisted: digested.is_unlisted,
     }
 }
 
@@ -176,16 +141,16 @@ fn push_file(alloc: Global, row: &FileRow<'_>, page: &mut String) -> Result<(), 
     push_row(
         alloc,
         &FILES,
-        &[
+        &page_html::eight_cells(
             &[Part::Code(row.file.name())],
             &[revision_of(newest)],
             &[author_of(newest)],
             &[approver_of(newest)],
             &[profile_of(newest)],
             &[size_of(newest)],
-            &[digest_of(newest, row.digest)],
+            &[if_revised(newest, Part::Digest(row.digest.as_str()))],
             &remark,
-        ],
+        ),
         page,
     )
 }
@@ -259,13 +224,13 @@ fn size_of<'a>(newest: Option<&'a Head>) -> Part<'a>
     }
 }
 
-/// Returns the digest of its text.
-fn digest_of<'a>(newest: Option<&'a Head>, digest: &'a str) -> Part<'a>
-    ensures { item_of result ≡ spec.digest (option_copied newest.entry) digest.now }
+/// Returns what is told of a revision, if there is one.
+fn if_revised<'a>(newest: Option<&'a Head>, told: Part<'a>) -> Part<'a>
+    ensures { item_of result ≡ spec.if_revised (option_copied newest.entry) (item_of told.entry) }
 {
     match newest {
         None => dash(),
-        Some(_) => Part::Digest(digest),
+        Some(_) => told,
     }
 }
 

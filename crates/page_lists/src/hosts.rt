@@ -195,7 +195,7 @@ fn push_some_hosts(alloc: Global, rows: &[HostRow<'_>], page: &mut String) -> Re
 /// Adds the rows of names of hosts.
 #[tactic(auto, unfolding(page_html::specs::Tables::rows_html))]
 fn push_host_rows(alloc: Global, rows: &[HostRow<'_>], page: &mut String) -> Result<(), AllocError>
-    ensures { OnOk result (string_bytes page.new ≡ string_bytes page.old ++ rows_html spec.host_frame (map spec.host rows.now)) }
+    ensures { OnOk result (string_bytes page.new ≡ string_bytes page.old ++ rows_html spec.host_frame (map (λ row. spec.cells (spec.row_value row)) rows.now)) }
 {
     for row in rows {
         push_host(alloc, row, page)?;
@@ -205,7 +205,7 @@ fn push_host_rows(alloc: Global, rows: &[HostRow<'_>], page: &mut String) -> Res
 
 /// Adds the name of a host.
 fn push_host(alloc: Global, row: &HostRow<'_>, page: &mut String) -> Result<(), AllocError>
-    ensures { OnOk result (string_bytes page.new ≡ string_bytes page.old ++ row_html spec.host_frame (spec.host row.now)) }
+    ensures { OnOk result (string_bytes page.new ≡ string_bytes page.old ++ row_html spec.host_frame (spec.cells (spec.row_value row.now))) }
 {
     let uses = uses_or(alloc, &row.facts)?;
     push_row(

@@ -4,6 +4,7 @@ ghost use Rattle.std.specs.Prelude.{◌≡◌, ◌++◌, IfOk, OnOk, map};
 ghost use Rattle.std.specs.List.{flat_map};
 ghost use Rattle.page_html.specs.Parts.{item_of};
 ghost use Rattle.page_lists.specs.Mentions as spec;
+ghost use Rattle.page_lists.specs.Uses.{mention_value};
 
 use desk_tables::FsId;
 use page_html::Part;
@@ -29,7 +30,7 @@ pub(crate) fn some_or<'a>(
     most: usize,
     nothing: Part<'a>,
 ) -> Result<Vec<Part<'a>>, AllocError>
-    ensures { IfOk result (λ parts. map item_of parts.items ≡ spec.some_or most (item_of nothing.entry) mentions.now) }
+    ensures { IfOk result (λ parts. map item_of parts.items ≡ spec.some_or most (item_of nothing.entry) (map mention_value mentions.now)) }
 {
     if mentions.is_empty() {
         let mut parts = Vec::new(alloc);
@@ -46,7 +47,7 @@ pub fn some_parts<'a>(
     mentions: &[Mention<'a>],
     most: usize,
 ) -> Result<Vec<Part<'a>>, AllocError>
-    ensures { IfOk result (λ parts. map item_of parts.items ≡ spec.some_items most mentions.now) }
+    ensures { IfOk result (λ parts. map item_of parts.items ≡ spec.some_of most (map mention_value mentions.now)) }
 {
     let (named, others) = mentions.split_at(most.min(mentions.len()));
     let mut parts = Vec::new(alloc);
@@ -57,7 +58,7 @@ pub fn some_parts<'a>(
 
 /// Adds what is named, with commas between.
 fn push_mentions<'a>(mentions: &[Mention<'a>], parts: &mut Vec<Part<'a>>) -> Result<(), AllocError>
-    ensures { OnOk result (map item_of parts.new.items ≡ map item_of parts.old.items ++ spec.all_of mentions.now) }
+    ensures { OnOk result (map item_of parts.new.items ≡ map item_of parts.old.items ++ spec.all_of (map mention_value mentions.now)) }
 {
     match mentions {
         [] => Ok(()),
@@ -70,7 +71,7 @@ fn push_mentions<'a>(mentions: &[Mention<'a>], parts: &mut Vec<Part<'a>>) -> Res
 
 /// Adds what is named behind the first.
 fn push_later<'a>(mentions: &[Mention<'a>], parts: &mut Vec<Part<'a>>) -> Result<(), AllocError>
-    ensures { OnOk result (map item_of parts.new.items ≡ map item_of parts.old.items ++ flat_map spec.later mentions.now) }
+    ensures { OnOk result (map item_of parts.new.items ≡ map item_of parts.old.items ++ flat_map spec.later (map mention_value mentions.now)) }
 {
     for mention in mentions {
         parts.push(Part::Words(", "))?;
@@ -81,7 +82,7 @@ fn push_later<'a>(mentions: &[Mention<'a>], parts: &mut Vec<Part<'a>>) -> Result
 
 /// Adds one that is named.
 fn push_mention<'a>(mention: Mention<'a>, parts: &mut Vec<Part<'a>>) -> Result<(), AllocError>
-    ensures { OnOk result (map item_of parts.new.items ≡ map item_of parts.old.items ++ spec.mention mention.entry) }
+    ensures { OnOk result (map item_of parts.new.items ≡ map item_of parts.old.items ++ spec.mention (mention_value mention.entry)) }
 {
     parts.push(kind_of(mention))?;
     parts.push(named(mention))?;
@@ -90,7 +91,7 @@ fn push_mention<'a>(mention: Mention<'a>, parts: &mut Vec<Part<'a>>) -> Result<(
 
 /// Returns what is said of a kind before the name.
 fn kind_of<'a>(mention: Mention<'a>) -> Part<'a>
-    ensures { item_of result ≡ spec.kind mention.entry }
+    ensures { item_of result ≡ spec.kind (mention_value mention.entry) }
 {
     match mention {
         Mention::Group(_) => Part::Words("group "),
@@ -100,7 +101,7 @@ fn kind_of<'a>(mention: Mention<'a>) -> Part<'a>
 
 /// Returns the name, with a link to a file system or to a line.
 fn named<'a>(mention: Mention<'a>) -> Part<'a>
-    ensures { item_of result ≡ spec.named mention.entry }
+    ensures { item_of result ≡ spec.named (mention_value mention.entry) }
 {
     match mention {
         Mention::System(fs, name) => Part::System(fs, name),

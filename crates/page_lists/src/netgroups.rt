@@ -188,7 +188,7 @@ fn push_netgroup_rows(
     rows: &[NetgroupRow<'_>],
     page: &mut String,
 ) -> Result<(), AllocError>
-    ensures { OnOk result (string_bytes page.new ≡ string_bytes page.old ++ rows_html spec.netgroup_frame (map spec.netgroup rows.now)) }
+    ensures { OnOk result (string_bytes page.new ≡ string_bytes page.old ++ rows_html spec.netgroup_frame (map (λ row. spec.cells (spec.row_value row)) rows.now)) }
 {
     for row in rows {
         push_netgroup(alloc, row, page)?;
@@ -198,7 +198,7 @@ fn push_netgroup_rows(
 
 /// Adds a netgroup.
 fn push_netgroup(alloc: Global, row: &NetgroupRow<'_>, page: &mut String) -> Result<(), AllocError>
-    ensures { OnOk result (string_bytes page.new ≡ string_bytes page.old ++ row_html spec.netgroup_frame (spec.netgroup row.now)) }
+    ensures { OnOk result (string_bytes page.new ≡ string_bytes page.old ++ row_html spec.netgroup_frame (spec.cells (spec.row_value row.now))) }
 {
     let members = some_or(
         alloc,

@@ -3,8 +3,10 @@
 ghost use Rattle.std.specs.Prelude.{◌≡◌, IfOk, filter, map};
 ghost use Rattle.std.specs.List.{dedup};
 ghost use Rattle.page_html.specs.Parts.{item_of};
+ghost use Rattle.page_html.specs.Ranges.{ends_of};
 ghost use Rattle.page_lists.specs.Uses as spec;
 ghost use Rattle.page_lists.specs.Uses.{mention_value};
+ghost use Rattle.page_lists.specs.NameCells.{stands_for, written_by};
 ghost use Rattle.page_lists.specs.NameIndex.{AreByName, IsIndexOf, is_of_name, same_line, written_value};
 
 use crate::mentions::{Mention, some_or};
@@ -96,7 +98,7 @@ fn mount_name(filesystems: &FileSystems, fs: FsId) -> &str
 
 /// Returns the addresses that a name stands for.
 pub(crate) fn stands_for<'a>(ranges: &'a [Span]) -> Part<'a>
-    ensures { item_of result ≡ spec.stands_for ranges.now }
+    ensures { item_of result ≡ stands_for (map ends_of ranges.now) }
 {
     if ranges.is_empty() {
         Part::Strong("nobody")
@@ -110,7 +112,7 @@ pub(crate) fn uses_or<'a>(
     alloc: Global,
     facts: &'a NameFacts<'_>,
 ) -> Result<Vec<Part<'a>>, AllocError>
-    ensures { IfOk result (λ parts. map item_of parts.items ≡ spec.written_by facts.now.uses.items) }
+    ensures { IfOk result (λ parts. map item_of parts.items ≡ written_by (map mention_value facts.now.uses.items)) }
 {
     some_or(
         alloc,

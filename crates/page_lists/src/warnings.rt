@@ -122,7 +122,7 @@ fn push_some_warnings(
 /// Adds rows.
 #[tactic(auto, unfolding(page_html::specs::Tables::rows_html))]
 fn push_rows(alloc: Global, rows: &[WarningRow<'_>], page: &mut String) -> Result<(), AllocError>
-    ensures { OnOk result (string_bytes page.new ≡ string_bytes page.old ++ rows_html spec.frame (map spec.cells rows.now)) }
+    ensures { OnOk result (string_bytes page.new ≡ string_bytes page.old ++ rows_html spec.frame (map (λ row. spec.cells (spec.row_value row)) rows.now)) }
 {
     for row in rows {
         push_warning(alloc, row, page)?;
@@ -132,19 +132,19 @@ fn push_rows(alloc: Global, rows: &[WarningRow<'_>], page: &mut String) -> Resul
 
 /// Adds a row.
 fn push_warning(alloc: Global, row: &WarningRow<'_>, page: &mut String) -> Result<(), AllocError>
-    ensures { OnOk result (string_bytes page.new ≡ string_bytes page.old ++ row_html spec.frame (spec.cells row.now)) }
+    ensures { OnOk result (string_bytes page.new ≡ string_bytes page.old ++ row_html spec.frame (spec.cells (spec.row_value row.now))) }
 {
     let line = line_of(row);
     push_row(
         alloc,
         &WARNINGS,
-        &[
+        &page_html::five_cells(
             &[Part::Code(row.file)],
             &line,
             &[Part::Code(row.word)],
             &[name_of(row.kind)],
             &[meaning_of(row.kind)],
-        ],
+        ),
         page,
     )
 }

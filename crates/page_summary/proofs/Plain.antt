@@ -1,14 +1,11 @@
 -- The cells of the summary have no picture.
-use Rattle.std.proofs.Common.{ℕ, ◌==◌, true, false, List, [], ◌∷◌, drop, if◌then◌else◌, length, map, refl, take}
+use Rattle.std.proofs.Common.{ℕ, ◌==◌, true, false, List, [], ◌∷◌, drop, if◌then◌else◌, length, refl, take}
 use Rattle.page_data.specs.Reasons.{level_of_all}
 use Rattle.page_html.specs.Items.{AndMore, Break, Item, Line, Own}
-use Rattle.page_html.proofs.Plain.{ArePlain, ArePlainCells, IsPlain, either_plain, parts, plain_append, plain_each}
+use Rattle.page_html.proofs.Plain.{ArePlain, ArePlainCells, IsPlain, either_plain, parts, plain_append}
 use Rattle.page_findings.proofs.Plain.{finding_plain, level_plain, plain_joined}
 use Rattle.page_findings.specs.Badges.{level_item}
-use Rattle.page_lists.proofs.Lent.{mention_of}
-use Rattle.page_lists.specs.Mentions.{all_of, later, mention, some_items}
-use Rattle.page_lists.specs.declared.mentions.Mention.{Mention}
-use Rattle.page_lists.specs.declared.mentions.Mention.TheVariants.{Group, Host, Line as LineOf, System}
+use Rattle.page_lists.proofs.Plain.{some_plain}
 use Rattle.page_summary.specs.Figures.{facts}
 use Rattle.page_summary.specs.Findings as findings
 use Rattle.page_summary.specs.Findings.{place, places, shared, shared_by, what}
@@ -49,23 +46,7 @@ finding_cells_plain first lines =
 
 -- ---- flavours
 
--- TO BE JOINED: those of page_lists
-mention_plain : (one : Mention) → ArePlain (mention one)
-mention_plain (System fs name) = record { are = refl }
-mention_plain (LineOf fs name line) = record { are = refl }
-mention_plain (Host name) = record { are = refl }
-mention_plain (Group name) = record { are = refl }
-
-all_plain : (mentions : List Mention) → ArePlain (all_of mentions)
-all_plain [] = record { are = refl }
-all_plain (first ∷ others) = plain_append (mention_plain first) (plain_each later (λ other. record { are = (mention_plain other).are }) others)
-
-some_items_plain : (most : ℕ) (mentions : List Mention) → ArePlain (some_items most mentions)
-some_items_plain most mentions =
-    let more : ArePlain (Own (AndMore (length (drop most mentions))) ∷ []) = record { are = refl } in
-    plain_append (all_plain (take most mentions)) more
-
 pub flavours_plain : (row : FlavoursValue) → ArePlainCells (flavours.cells row)
 flavours_plain row =
-    let systems = some_items_plain 12 (map mention_of row.systems) in
+    let systems = some_plain 12 row.systems in
     record { are = λ i. if systems.are i then true else false }

@@ -5,9 +5,8 @@ use Rattle.page_html.specs.Items.{FlavourNames, Flavours, Item, Number, Own}
 use Rattle.page_html.specs.Tables.{Count, Frame, Name, Plain, rows_html, table_start}
 use Rattle.page_html.specs.Titles.{Said}
 use Rattle.page_html.specs.declared.blocks.Tag.TheVariants.{TableEnd}
-use Rattle.page_lists.specs.Mentions.{some_items}
+use Rattle.page_lists.specs.Mentions.{some_of}
 use Rattle.page_lists.specs.Uses.{MentionValue}
-use Rattle.page_lists.proofs.Lent.{mention_of}
 use Rattle.page_summary.specs.FlavoursRows.{FlavoursValue, row_value}
 use Rattle.page_summary.specs.declared.flavours.FlavoursRow.{FlavoursRow}
 
@@ -21,19 +20,15 @@ flavours_frame = record {
       ∷ Plain (codes "File systems") ∷ [];
 }
 
--- the file systems: 12 at the most, and how many more (to be joined: `some_of 12 systems` of page_lists)
-abbrev pub named_systems : List MentionValue → List (Item (List ℕ))
-named_systems systems = some_items 12 (map mention_of systems)
-
 -- the cells of a row, given the last: the flavours, as lines write them and in words, how many lines have them, how many of these are not
--- read-only, and on which file systems
+-- read-only, and on which file systems: 12 at the most, and how many more
 abbrev pub cells_with : FlavoursValue → List (Item (List ℕ)) → List (List (Item (List ℕ)))
 cells_with row systems =
     (Own (FlavourNames row.flavours) ∷ []) ∷ (Own (Flavours row.flavours) ∷ []) ∷ (Own (Number row.lines) ∷ [])
     ∷ (Own (Number row.writable) ∷ []) ∷ systems ∷ []
 
 abbrev pub cells : FlavoursValue → List (List (Item (List ℕ)))
-cells row = cells_with row (named_systems row.systems)
+cells row = cells_with row (some_of 12 row.systems)
 
 abbrev pub row_cells : FlavoursRow → List (List (Item (List ℕ)))
 row_cells row = cells (row_value row)

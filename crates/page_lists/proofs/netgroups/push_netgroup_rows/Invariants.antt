@@ -3,8 +3,8 @@ use Rattle.std.proofs.Common.{◌≡◌, ◌++◌, map, take}
 use Rattle.std.specs.List.{flat_map}
 use Rattle.std.specs.String.{string_bytes}
 use Rattle.page_html.specs.Tables.{row_html}
-use Rattle.page_lists.specs.Netgroups.{netgroup, netgroup_frame}
+use Rattle.page_lists.specs.Netgroups.{cells, netgroup_frame, row_value}
 use Rattle.page_lists.proofs.netgroups.push_netgroup_rows.Given as goal
 
 abbrev pub invariant-loop-row : goal.invariant-loop-row
-invariant-loop-row l = string_bytes l.page ≡ string_bytes l.initial.page ++ flat_map (row_html netgroup_frame) (map netgroup (take l.row-index l.rows))
+invariant-loop-row l = string_bytes l.page ≡ string_bytes l.initial.page ++ flat_map (row_html netgroup_frame) (map (λ row. cells (row_value row)) (take l.row-index l.rows))

@@ -6,7 +6,7 @@ use Rattle.page_html.specs.Blocks.{tag_html}
 use Rattle.page_html.specs.Tables.{rows_html, table_start}
 use Rattle.page_html.specs.Titles.{Said}
 use Rattle.page_html.specs.declared.blocks.Tag.TheVariants.{TableEnd}
-use Rattle.page_lists.specs.Netgroups.{netgroup, netgroup_frame}
+use Rattle.page_lists.specs.Netgroups.{cells, netgroup_frame, row_value}
 use Rattle.page_lists.specs.Tables.{long_end, long_start}
 use Rattle.page_lists.proofs.netgroups.push_some_netgroups.Goals as goal
 
@@ -16,5 +16,5 @@ returns c =
     five_pieces (string_bytes c.args.page.now) (string_bytes c.push_long_start.new.page) (string_bytes c.push_table_start.new.page)
     (string_bytes c.push_netgroup_rows.new.page) (string_bytes c.push_tag.new.page) (string_bytes c.push_long_end.new.page)
     (long_start 24 (length rows) (codes "netgroup") (codes "netgroups")) (table_start netgroup_frame (Said (codes "Netgroups") ∷ []))
-    (rows_html netgroup_frame (map netgroup rows)) (tag_html TableEnd) (long_end 24 (length rows))
+    (rows_html netgroup_frame (map (λ row. cells (row_value row)) rows)) (tag_html TableEnd) (long_end 24 (length rows))
     c.in_ok-push_long_start.ensures c.in_ok-push_table_start.ensures c.in_ok-push_netgroup_rows.ensures c.in_ok-push_tag.ensures c.in_ok-push_long_end.ensures

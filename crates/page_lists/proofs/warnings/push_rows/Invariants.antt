@@ -3,8 +3,8 @@ use Rattle.std.proofs.Common.{◌≡◌, ◌++◌, map, take}
 use Rattle.std.specs.List.{flat_map}
 use Rattle.std.specs.String.{string_bytes}
 use Rattle.page_html.specs.Tables.{row_html}
-use Rattle.page_lists.specs.Warnings.{cells, frame}
+use Rattle.page_lists.specs.Warnings.{cells, frame, row_value}
 use Rattle.page_lists.proofs.warnings.push_rows.Given as goal
 
 abbrev pub invariant-loop-row : goal.invariant-loop-row
-invariant-loop-row l = string_bytes l.page ≡ string_bytes l.initial.page ++ flat_map (row_html frame) (map cells (take l.row-index l.rows))
+invariant-loop-row l = string_bytes l.page ≡ string_bytes l.initial.page ++ flat_map (row_html frame) (map (λ row. cells (row_value row)) (take l.row-index l.rows))

@@ -2,7 +2,6 @@ use Rattle.std.proofs.Common.{◌++◌, ◌∙◌, ap, map}
 use Rattle.std.specs.String.{string_bytes}
 use Rattle.page_html.specs.Parts.{item_of}
 use Rattle.page_html.specs.Tables.{row_html}
-use Rattle.page_lists.proofs.Lent.{some_again}
 use Rattle.page_summary.specs.FlavoursRows.{row_value}
 use Rattle.page_summary.specs.FlavoursTable.{cells_with, flavours_frame}
 use Rattle.page_summary.proofs.flavours.push_flavours.Goals as goal
@@ -12,4 +11,4 @@ returns c =
     c.in_ok-push_row.ensures
     ∙ ap (λ cells. string_bytes c.args.page.now ++ row_html flavours_frame cells)
     (c.five_cells.ensures
-    ∙ ap (cells_with (row_value c.args.row.now)) (ap (map item_of) c.as_slice.ensures.value ∙ c.in_ok-systems.ensures ∙ some_again 12 c.args.row.now.systems.now))
+    ∙ ap (cells_with (row_value c.args.row.now)) (ap (map item_of) c.as_slice.ensures.value ∙ c.in_ok-systems.ensures))
