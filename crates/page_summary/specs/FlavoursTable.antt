@@ -6,7 +6,6 @@ use Rattle.page_html.specs.Tables.{Count, Frame, Name, Plain, rows_html, table_s
 use Rattle.page_html.specs.Titles.{Said}
 use Rattle.page_html.specs.declared.blocks.Tag.TheVariants.{TableEnd}
 use Rattle.page_lists.specs.Mentions.{some_of}
-use Rattle.page_lists.specs.Uses.{MentionValue}
 use Rattle.page_summary.specs.FlavoursRows.{FlavoursValue, row_value}
 use Rattle.page_summary.specs.declared.flavours.FlavoursRow.{FlavoursRow}
 
