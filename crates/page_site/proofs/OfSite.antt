@@ -15,7 +15,7 @@ use Rattle.page_data.specs.declared.class.Class.{Class}
 use Rattle.page_data.specs.declared.lines.LineReasons.{LineReasons}
 use Rattle.page_data.specs.declared.systems.FileSystemReport.{FileSystemReport}
 use Rattle.page_findings.specs.Deciding.{AreDecidedFor, AreInLineOrder, AreSectionsOf, DecidedFor}
-use Rattle.page_maps.specs.Figures.{GainsOverviewMaps}
+use Rattle.page_maps.specs.Figures.{AreOverviewMaps}
 use Rattle.page_site.specs.FoundInSite.{AreDecidedOfSite, AreSmallMaps}
 
 -- so many items, of each of which this holds at its place
@@ -76,22 +76,22 @@ module _ (content : Content) (systems : List FileSystemReport) (are : AreSystems
       some_runs content (λ path. is_in (fs_of content.table path) place) (map class_run system.classes)
       (subst (λ (one : FileSystemReport). AreClassesIn content place (map class_run one.classes)) (sym is) (found_at place system within).classes)
 
--- the cells of small maps at a place: the first are those of all file systems together, and the others those of each
-pub record AreCellsAt (classes : List (Run Class)) (systems : List SystemValue) (place : ℕ) (cells : List ℕ) : Type 0 where
-  pub first : place ≡ 0 → GainsOverviewMaps classes [] cells
-  pub later : (fs : ℕ) (default : SystemValue) → place ≡ fs + 1 → GainsOverviewMaps (get_or systems fs default).classes [] cells
+-- the small maps at a place: the first are those of all file systems together, and the others those of each
+pub record AreMapsAt (classes : List (Run Class)) (systems : List SystemValue) (place : ℕ) (images : List (List ℕ)) : Type 0 where
+  pub first : place ≡ 0 → AreOverviewMaps classes images
+  pub later : (fs : ℕ) (default : SystemValue) → place ≡ fs + 1 → AreOverviewMaps (get_or systems fs default).classes images
 
-pub cells_later : (classes : List (Run Class)) (systems : List FileSystemReport) (fs : ℕ) (system : FileSystemReport) (cells : List ℕ) → fs < length systems → system ≡ get_or systems fs system
-    → GainsOverviewMaps (map class_run system.classes) [] cells → AreCellsAt classes (map system_value systems) (fs + 1) cells
-cells_later classes systems fs system cells within is drawn = record {
+pub maps_later : (classes : List (Run Class)) (systems : List FileSystemReport) (fs : ℕ) (system : FileSystemReport) (images : List (List ℕ)) → fs < length systems → system ≡ get_or systems fs system
+    → AreOverviewMaps (map class_run system.classes) images → AreMapsAt classes (map system_value systems) (fs + 1) images
+maps_later classes systems fs system images within is drawn = record {
   first = λ none. absurd (omega (arith, none));
   later = λ own default same.
       let this : fs ≡ own = omega (arith, same) in
       let value : system_value system ≡ get_or (map system_value systems) fs default = ap system_value is ∙ sym (get_or-map system_value systems fs system default within) in
-      subst (λ n. GainsOverviewMaps (get_or (map system_value systems) n default).classes [] cells) this (subst (λ (one : SystemValue). GainsOverviewMaps one.classes [] cells) value drawn);
+      subst (λ n. AreOverviewMaps (get_or (map system_value systems) n default).classes images) this (subst (λ (one : SystemValue). AreOverviewMaps one.classes images) value drawn);
 }
 
-pub all_maps : (content : Content) (classes : List (Run Class)) (systems : List SystemValue) (count : ℕ) (maps : List (List ℕ)) → AreClassesOfSite content classes → AreFirst (AreCellsAt classes systems) [] (count + 1) maps
+pub all_maps : (content : Content) (classes : List (Run Class)) (systems : List SystemValue) (count : ℕ) (maps : List (List (List ℕ))) → AreClassesOfSite content classes → AreFirst (AreMapsAt classes systems) [] (count + 1) maps
     → count ≡ length content.table → AreSmallMaps content systems maps
 all_maps content classes systems count maps together so_far all = record {
   count = so_far.many ∙ ap (λ n. n + 1) all;

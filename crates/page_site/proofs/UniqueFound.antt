@@ -13,13 +13,13 @@ use Rattle.page_data.specs.declared.lines.LineReasons.{LineReasons}
 use Rattle.page_findings.specs.Deciding.{DecidedFor}
 use Rattle.page_findings.specs.Lines.{AreReasonsOfSite}
 use Rattle.page_findings.specs.UniqueLaws.{LinesAreToldInOneWay, known_reasons}
-use Rattle.page_maps.specs.Figures.{GainsOverviewMaps}
+use Rattle.page_maps.specs.Figures.{AreOverviewMaps}
 use Rattle.page_maps.specs.Laws.{MapsAreToldInOneWay}
 use Rattle.page_site.specs.FoundInSite.{AreDecidedOfSite, AreSmallMaps}
 use Rattle.page_site.specs.UniqueLaws.{HasOneText}
 
 module _ (counts : CountsAreUnique) (maps_told : MapsAreToldInOneWay) (content : Content) (systems : List SystemValue) (each : All HasOneText systems)
-    (many : length systems ≡ length content.table) (maps others : List (List ℕ)) (are : AreSmallMaps content systems maps) (its : AreSmallMaps content systems others) where
+    (many : length systems ≡ length content.table) (maps others : List (List (List ℕ))) (are : AreSmallMaps content systems maps) (its : AreSmallMaps content systems others) where
   abbrev no_system : SystemValue
   no_system = record { sections = []; classes = []; grants = [] }
 
@@ -27,8 +27,8 @@ module _ (counts : CountsAreUnique) (maps_told : MapsAreToldInOneWay) (content :
   map_of zero within =
       let together = counts.classes content (λ path. true) are.classes its.classes are.together its.together in
       let some : AreRunsOfSome are.classes = record { value_at = are.together.class_at; are = are.together.are } in
-      (maps_told are.classes some).in_overview.same [] (get_or maps 0 []) (get_or others 0 []) are.first
-      (subst (λ (runs : List (Run Class)). GainsOverviewMaps runs [] (get_or others 0 [])) (sym together) its.first)
+      (maps_told are.classes some).in_overview (get_or maps 0 []) (get_or others 0 []) are.first
+      (subst (λ (runs : List (Run Class)). AreOverviewMaps runs (get_or others 0 [])) (sym together) its.first)
   map_of (suc fs) within =
       let count = are.count in
       let listed : fs < length content.table = omega arith in
@@ -36,7 +36,7 @@ module _ (counts : CountsAreUnique) (maps_told : MapsAreToldInOneWay) (content :
       let system = get_or systems fs no_system in
       let one = each fs no_system (omega arith) in
       subst (λ n. get_or maps n [] ≡ get_or others n []) next
-      ((maps_told system.classes one.classes).in_overview.same [] (get_or maps (fs + 1) []) (get_or others (fs + 1) []) (are.each fs no_system listed) (its.each fs no_system listed))
+      ((maps_told system.classes one.classes).in_overview (get_or maps (fs + 1) []) (get_or others (fs + 1) []) (are.each fs no_system listed) (its.each fs no_system listed))
 
   pub maps_in_one_way : maps ≡ others
   maps_in_one_way = ext_get_or [] maps others (are.count ∙ sym its.count) map_of

@@ -180,7 +180,7 @@ module _ (lists : ListsAreToldInOneWay) (summary : SummaryIsToldInOneWay) (lines
         (one_just section_end section_end refl))))
 
     -- ---- the tables
-    abbrev given : List SystemValue → List (List ℕ) → SiteParts
+    abbrev given : List SystemValue → List (List (List ℕ)) → SiteParts
     given systems maps = record {
       content = source.content;
       systems = systems;

@@ -13,7 +13,7 @@ use Rattle.page_data.specs.declared.class.Class.{Class}
 use Rattle.page_data.specs.declared.lines.LineReasons.{LineReasons}
 use Rattle.page_findings.specs.Lines.{AreLinesOfSite, AreReasonsOfSite, LineValue}
 use Rattle.page_findings.specs.Deciding.{AreDecidedFor, DecidedFor}
-use Rattle.page_maps.specs.Figures.{GainsOverviewMaps}
+use Rattle.page_maps.specs.Figures.{AreOverviewMaps}
 use Rattle.page_summary.specs.Proposals.{ProposalValue}
 use Rattle.page_site.specs.WaitingProposals.{Waiting}
 
@@ -28,14 +28,14 @@ pub record Source : Type 0 where
   pub openings : List (PlaceFound Opening)
 
 -- what is found of it: of each file system; why each line stands out, and which lines decide in place of those that never do, by file
--- system; the lines of the whole site; the cells of small maps, of all file systems together and then of each; and the proposals by which
+-- system; the lines of the whole site; the images of small maps, of all file systems together and then of each; and the proposals by which
 -- clients may do more
 pub record Found : Type 0 where
   pub systems : List SystemValue
   pub reasons : List (List LineReasons)
   pub decided : List (List DecidedFor)
   pub lines : List LineValue
-  pub maps : List (List ℕ)
+  pub maps : List (List (List ℕ))
   pub widening : List ProposalValue
 
 -- which lines decide in place of those that never do, by file system, in the order of their table
@@ -43,13 +43,13 @@ pub record AreDecidedOfSite (content : Content) (reasons : List (List LineReason
   pub count : length decided ≡ length content.table
   pub each : (fs : ℕ) → fs < length content.table → AreDecidedFor content fs (slice_index_or reasons fs []) (slice_index_or decided fs [])
 
--- the cells of small maps, of all file systems together and then of each
-pub record AreSmallMaps (content : Content) (systems : List SystemValue) (maps : List (List ℕ)) : Type 0 where
+-- the images of small maps, of all file systems together and then of each
+pub record AreSmallMaps (content : Content) (systems : List SystemValue) (maps : List (List (List ℕ))) : Type 0 where
   pub count : length maps ≡ length content.table + 1
   pub classes : List (Run Class)
   pub together : AreClassesOfSite content classes
-  pub first : GainsOverviewMaps classes [] (slice_index_or maps 0 [])
-  pub each : (fs : ℕ) (default : SystemValue) → fs < length content.table → GainsOverviewMaps (slice_index_or systems fs default).classes [] (slice_index_or maps (fs + 1) [])
+  pub first : AreOverviewMaps classes (slice_index_or maps 0 [])
+  pub each : (fs : ℕ) (default : SystemValue) → fs < length content.table → AreOverviewMaps (slice_index_or systems fs default).classes (slice_index_or maps (fs + 1) [])
 
 -- This is found of a policy.
 pub record IsFound (content : Content) (found : Found) : Type 0 where

@@ -1,11 +1,11 @@
 -- What the private contracts of the page cite.
 use Rattle.std.specs.Prelude.{All, List, map}
-use Rattle.std.specs.String.{string_bytes}
 use Rattle.desk_core.specs.Head.{CanBeKept}
 use Rattle.page_findings.specs.Deciding.{AreInLineOrder, DecidedFor, deciding_value}
 use Rattle.page_findings.specs.Lines.{AreReasonsOfSite, LineValue}
 use Rattle.page_data.specs.Laws.{IsSoundSite}
 use Rattle.page_data.specs.Systems.{SystemValue}
+use Rattle.page_maps.specs.Figures.{images_of}
 use Rattle.page_summary.specs.Proposals.{proposal_value}
 use Rattle.page_site.specs.SystemParts.{TellingValue}
 use Rattle.page_site.specs.FoundInSite.{AreDecidedOfSite, AreSmallMaps, Found, Source}
@@ -39,7 +39,7 @@ found_by systems found lines = record {
   reasons = found.reasons.now;
   decided = map deciding_value found.deciding.now;
   lines = lines;
-  maps = map string_bytes found.maps.now;
+  maps = map images_of found.maps.now;
   widening = map proposal_value found.widening.now;
 }
 
@@ -48,5 +48,5 @@ pub record IsFoundOfSite (source : Source) (systems : List SystemValue) (found :
   pub reasons : AreReasonsOfSite source.content found.reasons.now
   pub decided : AreDecidedOfSite source.content found.reasons.now (map deciding_value found.deciding.now)
   pub order : All AreInLineOrder (map deciding_value found.deciding.now)
-  pub maps : AreSmallMaps source.content systems (map string_bytes found.maps.now)
+  pub maps : AreSmallMaps source.content systems (map images_of found.maps.now)
   pub widening : AreWidening source.content source.waiting (map proposal_value found.widening.now)

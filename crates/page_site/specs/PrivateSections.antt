@@ -1,10 +1,10 @@
 -- What the private contracts of the sections cite.
 use Rattle.std.specs.Prelude.{All, map}
-use Rattle.std.specs.String.{string_bytes}
 use Rattle.page_findings.specs.Deciding.{AreInLineOrder, deciding_value}
 use Rattle.page_findings.specs.Lines.{line_value}
 use Rattle.page_data.specs.Laws.{IsSoundSite}
 use Rattle.page_data.specs.Systems.{system_value}
+use Rattle.page_maps.specs.Figures.{images_of}
 use Rattle.page_summary.specs.Proposals.{proposal_value}
 use Rattle.page_site.specs.FoundInSite.{Found, IsFound}
 use Rattle.page_site.specs.declared.sections.Parts.{Parts}
@@ -16,7 +16,7 @@ parts_found parts = record {
   reasons = parts.reasons.now;
   decided = map deciding_value parts.deciding.now;
   lines = map line_value parts.lines.now;
-  maps = map string_bytes parts.maps.now;
+  maps = map images_of parts.maps.now;
   widening = map proposal_value parts.widening.now;
 }
 

@@ -35,7 +35,7 @@ pub record SystemsAreToldInOneWay : Type 0 where
       → AreWaiting newest content proposals waiting → AreWaiting newest content proposals others → waiting ≡ others
   pub widening : (content : Content) (waiting : List Waiting) (rows others : List ProposalValue) → AreWidening content waiting rows → AreWidening content waiting others
       → rows ≡ others
-  pub maps : (content : Content) (systems : List SystemValue) (maps others : List (List ℕ)) → IsSoundSite content → AreSystems content systems
+  pub maps : (content : Content) (systems : List SystemValue) (maps others : List (List (List ℕ))) → IsSoundSite content → AreSystems content systems
       → AreSmallMaps content systems maps → AreSmallMaps content systems others → maps ≡ others
   pub decided : (content : Content) (reasons others : List (List LineReasons)) (found second : List (List DecidedFor)) → IsSoundSite content
       → AreReasonsOfSite content reasons → AreReasonsOfSite content others → AreDecidedOfSite content reasons found → AreDecidedOfSite content others second

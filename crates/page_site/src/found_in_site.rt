@@ -1,23 +1,19 @@
 //! What is found of a site before its page is written.
 
 ghost use Rattle.std.specs.Prelude.{[], All, IfOk, map};
-ghost use Rattle.std.specs.String.{string_bytes};
 ghost use Rattle.page_findings.specs.Deciding.{AreInLineOrder, deciding_value};
 ghost use Rattle.page_findings.specs.Lines.{AreReasonsOfSite};
-ghost use Rattle.page_maps.specs.Figures.{GainsOverviewMaps};
-ghost use Rattle.page_data.specs.Classes.{class_run};
+ghost use Rattle.page_maps.specs.Figures.{images_of};
 ghost use Rattle.page_data.specs.Laws.{IsSoundSite};
 ghost use Rattle.page_data.specs.Systems.{AreSystems, system_value};
-ghost use Rattle.page_data.specs.Values.{AreRunsOfSome};
 ghost use Rattle.page_site.specs.FoundInSite.{AreDecidedOfSite, AreSmallMaps};
 
 use desk_policy::Policy;
 use desk_tables::FsId;
 use desk_text::Sequence;
-use desk_who::Run;
-use page_data::{Class, FileSystemReport, LineReasons, classes_of_site};
+use page_data::{FileSystemReport, LineReasons, classes_of_site};
 use page_findings::{Deciding, deciding_lines};
-use page_maps::push_overview_maps;
+use page_maps::{FixedMaps, overview_maps};
 use std::alloc::{AllocError, Global};
 
 /// Lists which lines decide in place of those that never do, by file system, in the order of the table, given what is found of each file
@@ -49,33 +45,23 @@ pub(crate) fn deciding_of_site(
     Ok(deciding)
 }
 
-/// Draws the cells of small maps, of all file systems together and then of each, in the order of the table. (The policy is given for what
+/// Draws the small maps, of all file systems together and then of each, in the order of the table. (The policy is given for what
 /// is promised of them alone.)
 pub(crate) fn small_maps(
     alloc: Global,
     policy: &Policy,
     systems: &[FileSystemReport<'_>],
-) -> Result<Vec<String>, AllocError>
+) -> Result<Vec<FixedMaps>, AllocError>
     requires { AreSystems policy.now (map system_value systems.now) }
-    ensures { IfOk result (λ maps. AreSmallMaps policy.now (map system_value systems.now) (map string_bytes maps.items)) }
+    ensures { IfOk result (λ maps. AreSmallMaps policy.now (map system_value systems.now) (map images_of maps.items)) }
 {
     let classes = classes_of_site(alloc, systems)?;
-    let together = cells_of(alloc, classes.as_slice())?;
+    let together = overview_maps(alloc, classes.as_slice())?;
     let mut maps = Vec::new(alloc);
     maps.push(together)?;
     for system in systems {
-        let cells = cells_of(alloc, system.classes.as_slice())?;
-        maps.push(cells)?;
+        let own = overview_maps(alloc, system.classes.as_slice())?;
+        maps.push(own)?;
     }
     Ok(maps)
-}
-
-/// Draws the four cells of a row.
-fn cells_of(alloc: Global, classes: &[Run<Class>]) -> Result<String, AllocError>
-    requires { AreRunsOfSome (map class_run classes.now) }
-    ensures { IfOk result (λ cells. GainsOverviewMaps (map class_run classes.now) [] (string_bytes cells)) }
-{
-    let mut cells = String::new(alloc);
-    push_overview_maps(alloc, classes, &mut cells)?;
-    Ok(cells)
 }

@@ -33,6 +33,7 @@ use page_data::{
     FileSystemReport, LineReasons, Opening, ServerFindings, sites_are_sound, systems_of_site,
 };
 use page_findings::{Deciding, SiteLine, lines_of_site, reasons_of_site};
+use page_maps::FixedMaps;
 use page_summary::{ProposalRow, Section, push_section_end, push_section_start};
 use std::alloc::{AllocError, Global};
 
@@ -55,13 +56,13 @@ pub struct ReportedSite<'a, V> {
     pub openings: &'a [PlaceSection<'a, Opening>],
 }
 
-/// What is found of a site beside its lines: why each of them stands out, which others decide in place of those that never do, the cells of
-/// small maps, and the proposals by which clients may do more.
+/// What is found of a site beside its lines: why each of them stands out, which others decide in place of those that never do, the small
+/// maps, and the proposals by which clients may do more.
 #[derive(Clone, Copy)]
 pub(crate) struct FoundOfSite<'a> {
     pub reasons: &'a [Sequence<LineReasons<'a>>],
     pub deciding: &'a [Deciding],
-    pub maps: &'a [String],
+    pub maps: &'a [FixedMaps],
     pub widening: &'a [ProposalRow<'a>],
 }
 

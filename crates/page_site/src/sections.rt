@@ -25,7 +25,7 @@ use page_lists::{
     index_of_names, push_files_of, push_hosts_of, push_how_to_read, push_make_again,
     push_netgroups_of, push_warnings_of,
 };
-use page_maps::{push_networks, push_shapes};
+use page_maps::{FixedMaps, push_networks, push_shapes};
 use page_summary::{
     Header, ProposalRow, Section, SystemsData, push_figures_of, push_findings_of, push_flavours_of,
     push_footer, push_header, push_overview_of, push_section_end, push_section_start,
@@ -44,8 +44,8 @@ pub(crate) struct Parts<'a> {
     pub reasons: &'a [Sequence<LineReasons<'a>>],
     pub deciding: &'a [Deciding],
     pub lines: &'a [SiteLine<'a>],
-    /// The cells of small maps, of all file systems together and then of each.
-    pub maps: &'a [String],
+    /// The small maps, of all file systems together and then of each.
+    pub maps: &'a [FixedMaps],
     /// The proposals by which clients may do more.
     pub widening: &'a [ProposalRow<'a>],
 }

@@ -1,6 +1,8 @@
 pub mod Valued
 pub mod Rowed
 pub mod UniqueFindings
+mod UniqueOverview
+pub mod PlainOverview
 pub mod Unique
 pub mod Plain
 pub mod Standing

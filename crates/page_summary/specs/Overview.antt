@@ -1,14 +1,15 @@
 -- The file systems of a site. (this project's own)
-use Rattle.std.specs.Prelude.{ℕ, ◌==◌, ◌&&◌, Bool, List, [], ◌∷◌, ◌++◌, Option, Some, None, codes, false, if◌then◌else◌}
-use Rattle.std.specs.List.{flat_map}
+use Rattle.std.specs.Prelude.{ℕ, ◌==◌, ◌&&◌, Bool, List, [], ◌∷◌, ◌++◌, Option, Some, None, codes, false, map, if◌then◌else◌}
 use Rattle.std.specs.Option.{option_copied}
 use Rattle.desk_core.specs.declared.head.Head.{Head}
+use Rattle.page_data.specs.declared.class.Class.{Class}
 use Rattle.page_html.specs.Blocks.{tag_html}
-use Rattle.page_html.specs.Items.{Code, Codes, Digits, Item, Nothing, Own, PartOf, Plural, Strong, System, Words, Zero}
-use Rattle.page_html.specs.Tables.{Column, Count, Frame, Name, Plain, cells_html, table_start}
+use Rattle.page_html.specs.Items.{Code, Codes, Digits, Drawn, Item, Nothing, Own, PartOf, Plural, Strong, System, Words, Zero}
+use Rattle.page_html.specs.Tables.{Count, Frame, Name, Plain, rows_html, short_row_html, table_start}
 use Rattle.page_html.specs.Titles.{Said}
 use Rattle.page_html.specs.declared.blocks.Tag.TheVariants.{TableEnd}
 use Rattle.page_findings.specs.Badges.{badge_item}
+use Rattle.page_maps.specs.Figures.{images_of}
 use Rattle.page_summary.specs.declared.overview.Reach.{Reach}
 use Rattle.page_summary.specs.declared.overview.SystemRow.{SystemRow}
 use Rattle.page_summary.specs.declared.overview.TheConstants.{LEGEND}
@@ -17,33 +18,23 @@ use Rattle.page_summary.specs.declared.overview.TheConstants.{LEGEND}
 unfoldable pub legend : List ℕ
 legend = LEGEND.now
 
--- the table, and its columns before the maps and behind them
-abbrev pub before_maps : List Column
-before_maps = Name (codes "File system") ∷ Plain (codes "At the most") ∷ []
-
-abbrev pub behind_maps : List Column
-behind_maps = Count (codes "Addresses") ∷ Plain (codes "Kept by") ∷ Plain (codes "In force") ∷ Plain (codes "Stands out") ∷ []
-
+-- the table
 abbrev pub overview_frame : Frame
 overview_frame = record {
   class = codes "o";
   is_titled = false;
   columns =
-      before_maps
-      ++ Plain (codes "all of IPv4") ∷ Plain (codes "10.0.0.0/8") ∷ Plain (codes "172.16.0.0/12") ∷ Plain (codes "192.168.0.0/16")
-      ∷ behind_maps;
+      Name (codes "File system") ∷ Plain (codes "At the most") ∷ Plain (codes "all of IPv4") ∷ Plain (codes "10.0.0.0/8")
+      ∷ Plain (codes "172.16.0.0/12") ∷ Plain (codes "192.168.0.0/16") ∷ Count (codes "Addresses") ∷ Plain (codes "Kept by")
+      ∷ Plain (codes "In force") ∷ Plain (codes "Stands out") ∷ [];
 }
 
--- a row: the cells before those of the maps, these, and the cells behind them
-abbrev pub row_around : List (List (Item (List ℕ))) → List ℕ → List (List (Item (List ℕ))) → List ℕ
-row_around before maps behind = codes "<tr>" ++ cells_html before_maps before ++ maps ++ cells_html behind_maps behind ++ codes "</tr>\n"
+-- how far file systems reach: the most that an address may, the maps, and how many of all addresses may something
+abbrev pub map_cell : List ℕ → List (Item (List ℕ))
+map_cell image = Own (Drawn image) ∷ []
 
--- how far file systems reach: the most that an address may, and how many of all addresses may something
-abbrev pub most_cell : Reach → List (Item (List ℕ))
-most_cell reach = badge_item reach.most ∷ []
-
-abbrev pub addresses_cell : Reach → List (Item (List ℕ))
-addresses_cell reach = Own (PartOf reach.addresses 4294967296) ∷ []
+abbrev pub reach_cells : Class → List (List ℕ) → ℕ → List (List (Item (List ℕ)))
+reach_cells most images addresses = (badge_item most ∷ []) ∷ map map_cell images ++ (Own (PartOf addresses 4294967296) ∷ []) ∷ []
 
 -- a part, if something is so
 abbrev pub item_if : Bool → Item (List ℕ) → Item (List ℕ)
@@ -79,20 +70,24 @@ standing_out first check =
     else (if check == 0 then first_level first ∷ Own Nothing ∷ Own Nothing ∷ []
     else first_level first ∷ Own (Words (codes ", ")) ∷ second_level check ∷ []))
 
--- a row for a file system, and the one for all together
-abbrev pub row : SystemRow → List ℕ
-row system =
-    row_around ((System system.fs.0 system.name.now ∷ []) ∷ most_cell system.reach ∷ []) system.reach.maps.now
-    (addresses_cell system.reach ∷ keepers system.custodians.now system.guarded ∷ in_force (option_copied system.head) system.has_proposal
-    ∷ standing_out system.first system.check ∷ [])
+-- the cells of a row for a file system, given the images of its maps and its newest revision: its name, how far it reaches, and the others
+abbrev pub told_cells : Option Head → SystemRow → List (List (Item (List ℕ)))
+told_cells head system =
+    keepers system.custodians.now system.guarded ∷ in_force head system.has_proposal ∷ standing_out system.first system.check ∷ []
 
-unfoldable pub rows : List SystemRow → List ℕ
-rows systems = flat_map row systems
+abbrev pub cells_with : List (List ℕ) → Option Head → SystemRow → List (List (Item (List ℕ)))
+cells_with images head system =
+    (System system.fs.0 system.name.now ∷ []) ∷ reach_cells system.reach.most images system.reach.addresses ++ told_cells head system
 
-abbrev pub any_row : Reach → List ℕ
-any_row together =
-    row_around ((Own (Strong (codes "any of them")) ∷ []) ∷ most_cell together ∷ []) together.maps.now
-    (addresses_cell together ∷ [] ∷ [] ∷ [] ∷ [])
+abbrev pub cells : SystemRow → List (List (Item (List ℕ)))
+cells system = cells_with (images_of system.reach.maps.now) (option_copied system.head) system
+
+-- those of the row for all together, of which the last are empty
+abbrev pub any_with : List (List ℕ) → Reach → List (List (Item (List ℕ)))
+any_with images together = (Own (Strong (codes "any of them")) ∷ []) ∷ reach_cells together.most images together.addresses
+
+abbrev pub any_cells : Reach → List (List (Item (List ℕ)))
+any_cells together = any_with (images_of together.maps.now) together
 
 -- the key of the maps, and the table
 abbrev pub overview_start : List ℕ
@@ -100,4 +95,6 @@ overview_start =
     table_start overview_frame (Said (codes "The file systems, and where the clients are that may mount some directory of them") ∷ [])
 
 abbrev pub overview : Reach → List SystemRow → List ℕ
-overview together systems = legend ++ overview_start ++ any_row together ++ rows systems ++ tag_html TableEnd
+overview together systems =
+    legend ++ overview_start ++ short_row_html overview_frame (any_cells together) ++ rows_html overview_frame (map cells systems)
+    ++ tag_html TableEnd

@@ -7,6 +7,7 @@ use Rattle.page_data.specs.Counts.{AreCountsFrom, granted_of}
 use Rattle.page_data.specs.declared.class.Class.{Class}
 use Rattle.page_data.specs.declared.class.Class.TheVariants.{Denied}
 use Rattle.page_data.specs.declared.counts.Counts.{Counts}
+use Rattle.page_maps.specs.Figures.{images_of}
 use Rattle.page_summary.specs.declared.overview.Reach.{Reach}
 
 -- the greatest class of runs
@@ -19,8 +20,8 @@ pub record MaySomething (runs : List (Run Class)) (count : ℕ) : Type 0 where
   pub are : AreCountsFrom runs 0 (2 ^ 32 - 1) counts
   pub count_is : count ≡ granted_of counts
 
--- How far these runs reach, with the cells of their maps.
-pub record IsReachOf (runs : List (Run Class)) (maps : List ℕ) (reach : Reach) : Type 0 where
+-- How far these runs reach, with the images of their maps.
+pub record IsReachOf (runs : List (Run Class)) (maps : List (List ℕ)) (reach : Reach) : Type 0 where
   pub most : reach.most ≡ most_among runs
-  pub maps_are : reach.maps.now ≡ maps
+  pub maps_are : images_of reach.maps.now ≡ maps
   pub addresses : MaySomething runs reach.addresses

@@ -26,14 +26,14 @@ abbrev pub is_check_line : LineReasons → Bool
 is_check_line one = not (length one.reasons == 0) && not (is_first_line one)
 
 -- what is given of a site: what is found of each file system, why their lines stand out, the newest revisions, the proposals, and the
--- cells of the maps of all file systems together and of each
+-- images of the maps of all file systems together and of each
 pub record SiteParts : Type 0 where
   pub content : Content
   pub systems : List SystemValue
   pub reasons : List (List LineReasons)
   pub heads : List Head
   pub proposals : List Proposal
-  pub maps : List (List ℕ)
+  pub maps : List (List (List ℕ))
 
 -- The row of the file system at a place.
 pub record IsRowOf (site : SiteParts) (place : ℕ) (row : SystemRow) : Type 0 where

@@ -1,9 +1,10 @@
 //! The file systems of a site, with a row for each.
 
-ghost use Rattle.std.specs.Prelude.{◌≡◌, ◌++◌, OnOk, length, map};
+ghost use Rattle.std.specs.Prelude.{◌≡◌, ◌++◌, OnOk, map};
 ghost use Rattle.std.specs.Option.{option_copied};
 ghost use Rattle.std.specs.String.{string_bytes};
-ghost use Rattle.page_html.specs.Parts.{item_of, items_of};
+ghost use Rattle.page_html.specs.Parts.{item_of};
+ghost use Rattle.page_html.specs.Tables.{row_html, rows_html, short_row_html};
 ghost use Rattle.page_summary.specs.Overview as spec;
 
 use crate::findings::SPACE;
@@ -13,8 +14,10 @@ use desk_text::Text;
 use page_data::Class;
 use page_findings::badge_part;
 use page_html::{
-    Column, Frame, Part, Tag, Title, push_cells, push_fixed, push_table_start, push_tag,
+    Column, Frame, Part, Tag, Title, push_fixed, push_row, push_short_row, push_table_start,
+    push_tag,
 };
+use page_maps::FixedMaps;
 use std::alloc::{AllocError, Global};
 
 /// The key of the maps.
@@ -49,17 +52,11 @@ const OVERVIEW: Frame = Frame {
     ],
 };
 
-/// How many columns stand before those of the maps, and where the ones behind them begin.
-const BEFORE_MAPS: usize = 2;
-
-const BEHIND_MAPS: usize = 6;
-
-/// How far file systems reach: the most that an address may, the cells of the maps, and how many addresses may something.
+/// How far file systems reach: the most that an address may, the maps, and how many addresses may something.
 #[derive(Clone, Copy)]
 pub struct Reach<'a> {
     pub most: Class,
-    /// The four cells of the maps, of all addresses and of the private networks: HTML, which comes onto the page as it is.
-    pub maps: &'a str,
+    pub maps: &'a FixedMaps,
     pub addresses: u64,
 }
 
@@ -103,21 +100,28 @@ pub fn push_overview(
 
 /// Adds the row for all file systems together.
 fn push_any(alloc: Global, together: &Reach<'_>, page: &mut String) -> Result<(), AllocError>
-    ensures { OnOk result (string_bytes page.new ≡ string_bytes page.old ++ spec.any_row together.now) }
+    ensures { OnOk result (string_bytes page.new ≡ string_bytes page.old ++ short_row_html spec.overview_frame (spec.any_cells together.now)) }
 {
-    push_around(
+    push_short_row(
         alloc,
-        &[&[Part::Strong("any of them")], &[badge_part(together.most)]],
-        together.maps,
-        &[&[Part::PartOf(together.addresses, SPACE)], &[], &[], &[]],
+        &OVERVIEW,
+        &[
+            &[Part::Strong("any of them")],
+            &[badge_part(together.most)],
+            &[Part::Drawn(&together.maps.all)],
+            &[Part::Drawn(&together.maps.wide)],
+            &[Part::Drawn(&together.maps.middle)],
+            &[Part::Drawn(&together.maps.narrow)],
+            &[Part::PartOf(together.addresses, SPACE)],
+        ],
         page,
     )
 }
 
 /// Adds the rows for each.
-#[tactic(auto, unfolding(crate::specs::Overview::rows))]
+#[tactic(auto, unfolding(page_html::specs::Tables::rows_html))]
 fn push_rows(alloc: Global, rows: &[SystemRow<'_>], page: &mut String) -> Result<(), AllocError>
-    ensures { OnOk result (string_bytes page.new ≡ string_bytes page.old ++ spec.rows rows.now) }
+    ensures { OnOk result (string_bytes page.new ≡ string_bytes page.old ++ rows_html spec.overview_frame (map spec.cells rows.now)) }
 {
     for row in rows {
         push_system(alloc, row, page)?;
@@ -127,50 +131,36 @@ fn push_rows(alloc: Global, rows: &[SystemRow<'_>], page: &mut String) -> Result
 
 /// Adds the row of a file system.
 fn push_system(alloc: Global, row: &SystemRow<'_>, page: &mut String) -> Result<(), AllocError>
-    ensures { OnOk result (string_bytes page.new ≡ string_bytes page.old ++ spec.row row.now) }
+    ensures { OnOk result (string_bytes page.new ≡ string_bytes page.old ++ row_html spec.overview_frame (spec.cells row.now)) }
 {
-    let in_force = in_force(row);
-    let standing_out = standing_out(row);
-    push_around(
+    push_row(
         alloc,
+        &OVERVIEW,
         &[
             &[Part::System(row.fs, row.name)],
             &[badge_part(row.reach.most)],
-        ],
-        row.reach.maps,
-        &[
+            &[Part::Drawn(&row.reach.maps.all)],
+            &[Part::Drawn(&row.reach.maps.wide)],
+            &[Part::Drawn(&row.reach.maps.middle)],
+            &[Part::Drawn(&row.reach.maps.narrow)],
             &[Part::PartOf(row.reach.addresses, SPACE)],
-            &[
-                Part::Codes(row.custodians),
-                part_if(row.guarded, Part::Words(" ")),
-                part_if(row.guarded, Part::Strong("guarded")),
-            ],
-            &in_force,
-            &standing_out,
+            &keepers(row.custodians, row.guarded),
+            &in_force(row),
+            &standing_out(row),
         ],
         page,
     )
 }
 
-/// Adds a row: the cells before those of the maps, these, which come onto the page as they are, and the cells behind them.
-fn push_around(
-    alloc: Global,
-    before: &[&[Part<'_>]],
-    maps: &str,
-    behind: &[&[Part<'_>]],
-    page: &mut String,
-) -> Result<(), AllocError>
-    requires before { length before.now ≡ length spec.before_maps }
-    requires behind { length behind.now ≡ length spec.behind_maps }
-    ensures { OnOk result (string_bytes page.new
-        ≡ string_bytes page.old ++ spec.row_around (map (λ cell. items_of cell.now) before.now) maps.now (map (λ cell. items_of cell.now) behind.now)) }
+/// Returns who keeps a file system, and whether it is guarded.
+fn keepers<'a>(custodians: &'a [Text], guarded: bool) -> [Part<'a>; 3]
+    ensures { map item_of result ≡ spec.keepers custodians.now guarded }
 {
-    page.push_str("<tr>")?;
-    push_cells(alloc, &OVERVIEW.columns[..BEFORE_MAPS], before, page)?;
-    page.push_str(maps)?;
-    push_cells(alloc, &OVERVIEW.columns[BEHIND_MAPS..], behind, page)?;
-    page.push_str("</tr>\n")?;
-    Ok(())
+    [
+        Part::Codes(custodians),
+        part_if(guarded, Part::Words(" ")),
+        part_if(guarded, Part::Strong("guarded")),
+    ]
 }
 
 /// Returns a part, if something is so.

@@ -3,17 +3,19 @@
 ghost use Rattle.std.specs.Prelude.{◌≡◌, map};
 ghost use Rattle.page_data.specs.Classes.{class_run};
 ghost use Rattle.page_data.specs.Values.{AreRunsOfSome};
+ghost use Rattle.page_maps.specs.Figures.{images_of};
 ghost use Rattle.page_summary.specs.Reaching.{IsReachOf, MaySomething, most_among};
 
 use crate::overview::Reach;
 use desk_text::Addr;
 use desk_who::Run;
 use page_data::{Class, counts_add_up, counts_within};
+use page_maps::FixedMaps;
 
-/// Finds how far the runs of what addresses may reach, and puts the cells of their maps beside it.
-pub(crate) fn reach_of<'a>(runs: &[Run<Class>], maps: &'a str) -> Reach<'a>
+/// Finds how far the runs of what addresses may reach, and puts their maps beside it.
+pub(crate) fn reach_of<'a>(runs: &[Run<Class>], maps: &'a FixedMaps) -> Reach<'a>
     requires { AreRunsOfSome (map class_run runs.now) }
-    ensures { IsReachOf (map class_run runs.now) maps.now result }
+    ensures { IsReachOf (map class_run runs.now) (images_of maps.now) result }
 {
     Reach {
         most: most_among(runs),

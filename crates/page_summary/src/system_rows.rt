@@ -17,10 +17,11 @@ use desk_policy::{Policy, exports_file_name};
 use desk_tables::FsId;
 use desk_text::Sequence;
 use page_data::{FileSystemReport, Level, LineReasons, classes_of_site, level_of_reasons};
+use page_maps::FixedMaps;
 use std::alloc::{AllocError, Global};
 
 /// What is given of a site: its policy, what is found of each file system, why its lines stand out, the newest revisions of files, their
-/// proposals, and the cells of the maps, as HTML, first those of all file systems together and then those of each.
+/// proposals, and the maps, first those of all file systems together and then those of each.
 #[derive(Clone, Copy)]
 pub struct SystemsData<'a> {
     pub policy: &'a Policy,
@@ -28,7 +29,7 @@ pub struct SystemsData<'a> {
     pub reasons: &'a [Sequence<LineReasons<'a>>],
     pub heads: &'a [Head],
     pub proposals: &'a [Proposal],
-    pub maps: &'a [String],
+    pub maps: &'a [FixedMaps],
 }
 
 /// Adds the key of the maps, a row for all file systems together, and one for each.
@@ -41,7 +42,7 @@ pub fn push_overview_of(
     ensures { OnOk result (Adds (AreOverviewRows (site_parts site.now)) overview_text (string_bytes page.old) (string_bytes page.new)) }
 {
     let classes = classes_of_site(alloc, site.systems)?;
-    let together = reach_of(classes.as_slice(), site.maps[0].as_str());
+    let together = reach_of(classes.as_slice(), &site.maps[0]);
     let rows = system_rows(alloc, site)?;
     push_overview(alloc, &together, rows.as_slice(), page)
 }
@@ -76,7 +77,7 @@ fn system_row<'a>(
     Ok(SystemRow {
         fs: FsId(place as u32),
         name,
-        reach: reach_of(runs, site.maps[place + 1].as_str()),
+        reach: reach_of(runs, &site.maps[place + 1]),
         custodians: mount.custodians.as_slice(),
         guarded: mount.guarded,
         head: newest_among(site.heads, file.as_str()),

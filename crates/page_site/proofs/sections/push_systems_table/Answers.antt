@@ -2,6 +2,7 @@ use Rattle.std.proofs.Common.{◌∙◌, sym}
 use Rattle.std.proofs.lemmas.List.{length-map}
 use Rattle.std.specs.String.{string_bytes}
 use Rattle.std.proofs.lemmas.Result.{on_ok_weaker}
+use Rattle.page_maps.specs.Figures.{images_of}
 use Rattle.page_summary.specs.SystemRows.{AreOverviewRows, overview_text}
 use Rattle.page_site.specs.Page.{parts_of}
 use Rattle.page_site.specs.PrivateSections.{parts_found}
@@ -27,5 +28,5 @@ push_overview_of-requires c =
       sound = c.requires.sound;
       systems = found.systems;
       reasons = found.reasons.count;
-      maps = sym (length-map parts.maps.now string_bytes) ∙ found.maps.count;
+      maps = sym (length-map parts.maps.now images_of) ∙ found.maps.count;
     }

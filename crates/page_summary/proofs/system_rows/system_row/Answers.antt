@@ -1,7 +1,6 @@
 use Rattle.std.proofs.Common.{◌≡◌, ◌+◌, ◌<◌, ◌∙◌, [], ap, arith, get_or, length, map, refl, subst, sym}
 use Rattle.std.specs.Prelude.{count_by}
 use Rattle.std.specs.Option.{option_map}
-use Rattle.std.specs.String.{string_bytes}
 use Rattle.std.proofs.lemmas.List.{get_or-map, get_or_default}
 use Rattle.std.proofs.lemmas.Option.{slice_get-map, slice_get_read}
 use Rattle.desk_core.specs.Head.{newest_in}
@@ -11,6 +10,7 @@ use Rattle.page_data.specs.Classes.{class_run}
 use Rattle.page_data.specs.Systems.{system_value}
 use Rattle.page_data.specs.Values.{AreRunsOfSome}
 use Rattle.page_data.specs.declared.systems.FileSystemReport.{FileSystemReport}
+use Rattle.page_maps.specs.Figures.{images_of}
 use Rattle.page_summary.specs.Files.{file_of, has_proposal}
 use Rattle.page_summary.specs.Reaching.{IsReachOf}
 use Rattle.page_summary.specs.SystemRows.{is_check_line, is_first_line}
@@ -33,11 +33,10 @@ returns c =
     let many = as_many site.policy.now site.systems.now c.requires.parts.systems in
     let within : place < length table = omega (arith, c.requires.listed) in
     let is_mount : mount ≡ get_or table place mount = c.index-as_slice-place.is ∙ ap (λ mounts. get_or mounts place mount) (c.as_slice.ensures ∙ c.filesystems.ensures) in
-    let file_2 : c.as_str-2.result.now ≡ file_of mount = c.as_str-2.ensures.value ∙ c.in_ok-file.ensures ∙ ap exports_file_name c.text-name.ensures.printed in
-    let file_3 : c.as_str-3.result.now ≡ file_of mount = c.as_str-3.ensures.value ∙ c.in_ok-file.ensures ∙ ap exports_file_name c.text-name.ensures.printed in
+    let file_2 : c.as_str.result.now ≡ file_of mount = c.as_str.ensures.value ∙ c.in_ok-file.ensures ∙ ap exports_file_name c.text-name.ensures.printed in
+    let file_3 : c.as_str-2.result.now ≡ file_of mount = c.as_str-2.ensures.value ∙ c.in_ok-file.ensures ∙ ap exports_file_name c.text-name.ensures.printed in
     let maps_within : place + 1 < length site.maps.now = omega (arith, c.requires.parts.maps) in
-    let maps : c.as_str.result.now ≡ get_or (map string_bytes site.maps.now) (place + 1) [] =
-    c.as_str.ensures.value ∙ sym (get_or-map string_bytes site.maps.now (place + 1) c.index-site-place-3.result [] maps_within) in
+    let maps = sym (get_or-map images_of site.maps.now (place + 1) c.index-site-place-3.result [] maps_within) in
     let reasons : c.as_slice-reasons.result.now ≡ get_or site.reasons.now place [] =
     (let other = get_or_default site.reasons.now place c.index-site-place-2.result [] (omega (arith, c.requires.parts.reasons)) in cc) in
     record {
@@ -48,9 +47,9 @@ returns c =
           ∙ ap (option_map system_value) (slice_get_read site.systems.now (length site.systems.now) place report refl c.requires.listed c.index-site-place.is);
       fs = refl;
       name = c.text-name.ensures.printed;
-      reach = subst (λ runs. IsReachOf (map class_run runs) (get_or (map string_bytes site.maps.now) (place + 1) []) c.reach_of.result)
+      reach = subst (λ runs. IsReachOf (map class_run runs) (get_or (map images_of site.maps.now) (place + 1) []) c.reach_of.result)
           (c.as_slice-runs.ensures ∙ ap (λ (one : FileSystemReport). one.classes) (sym c.index-site-place.is))
-          (subst (λ text. IsReachOf (map class_run c.as_slice-runs.result.now) text c.reach_of.result) maps c.reach_of.ensures);
+          (subst (λ images. IsReachOf (map class_run c.as_slice-runs.result.now) images c.reach_of.result) maps c.reach_of.ensures);
       custodians = c.as_slice-2.ensures;
       guarded = refl;
       head = c.newest_among.ensures ∙ ap (newest_in site.heads.now) file_2;
