@@ -24,7 +24,7 @@ use Rattle.page_html.specs.Items.{Item, LineLink, Own, Range, Words}
 use Rattle.page_html.specs.declared.blocks.Element.TheVariants.{Entry}
 use Rattle.page_html.specs.declared.blocks.Tag.TheVariants.{FindingsStart, ListEnd}
 use Rattle.page_filesystem.specs.Findings.{entries, entry, findings_list}
-use Rattle.page_filesystem.specs.Notes.{line_at, logical_line_note, not_read, notes_of, said_by, said_for, site_line_note}
+use Rattle.page_filesystem.specs.Notes.{line_at, logical_line_note, not_read, notes_of, said_by, said_for, site_line_note, site_line_told}
 use Rattle.page_filesystem.specs.UniqueLaws.{KnownFinding, known_finding}
 use Rattle.page_filesystem.specs.declared.gutter.Note.{Note}
 
@@ -64,12 +64,14 @@ said_again line (reason ∷ reasons) = by_kept (said_by line) (λ found other sa
 many_again : (reasons : List Reason) → length reasons ≡ length (all_again reasons)
 many_again reasons = sym (length-map (map reason_value reasons) reason_kept ∙ length-map reasons reason_value)
 
-note_again : (line : LineValue) → site_line_note line ≡ site_line_note (line_again (known_line line))
-note_again line = λ i. record {
-  line = line.row.entry.line;
+told_again : (line : LineValue) → site_line_told line ≡ site_line_told (line_again (known_line line))
+told_again line = λ i. record {
   said = said_again line line.reasons i;
   stands_out = not (many_again line.reasons i == 0);
 }
+
+note_again : (line : LineValue) → site_line_note line ≡ site_line_note (line_again (known_line line))
+note_again line = λ i. record { line = line.row.entry.line; told = Some (told_again line i) }
 
 -- the note on the line with a number
 noted_again : (number : ℕ) (lines : List LineValue) → option_map site_line_note (line_at lines number) ≡ option_map site_line_note (line_at (lines_again lines) number)

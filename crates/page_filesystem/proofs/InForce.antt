@@ -38,25 +38,25 @@ one_more old new line given k within is updates before = λ other.
 
 module _ (in_force : List (List ℕ)) where
   rows_push : (before : ℕ) (xs : List (List ℕ)) (x : List ℕ) → proposed_rows in_force before (xs ++ x ∷ []) ≡ proposed_rows in_force before xs
-      ++ proposed_row (is_among in_force x) (before + length xs + 1) x
+      ++ proposed_row in_force (before + length xs + 1) x
   rows_push before [] x =
-      append-nil (proposed_row (is_among in_force x) (before + 1) x) ∙ ap (λ n. proposed_row (is_among in_force x) n x)
+      append-nil (proposed_row in_force (before + 1) x) ∙ ap (λ n. proposed_row in_force n x)
       (let e : before + 1 ≡ before + 0 + 1 = omega arith in e)
   rows_push before (y ∷ xs) x =
-      let first = proposed_row (is_among in_force y) (before + 1) y in
+      let first = proposed_row in_force (before + 1) y in
       let others = proposed_rows in_force (before + 1) xs in
       ap (λ t. first ++ t) (rows_push (before + 1) xs x)
-      ∙ ap (λ n. first ++ (others ++ proposed_row (is_among in_force x) n x))
+      ∙ ap (λ n. first ++ (others ++ proposed_row in_force n x))
       (let e : before + 1 + length xs + 1 ≡ before + length (y ∷ xs) + 1 = omega arith in e)
-      ∙ sym (append_assoc first others (proposed_row (is_among in_force x) (before + length (y ∷ xs) + 1) x))
+      ∙ sym (append_assoc first others (proposed_row in_force (before + length (y ∷ xs) + 1) x))
 
   pub proposed_more : (ls : List (List ℕ)) (k number : ℕ) (line : List ℕ) (start now next : List ℕ) → k < length ls → line ≡ get_or ls k line → number
       ≡ k
-      → now ≡ start ++ proposed_rows in_force 0 (take k ls) → next ≡ now ++ proposed_row (is_among in_force line) (number + 1) line → next ≡ start
+      → now ≡ start ++ proposed_rows in_force 0 (take k ls) → next ≡ now ++ proposed_row in_force (number + 1) line → next ≡ start
       ++ proposed_rows in_force 0 (take (k + 1) ls)
   proposed_more ls k number line start now next within is counted before added =
       let here : 0 + length (take k ls) + 1 ≡ number + 1 = omega (arith, length-take-le k ls) in
-      let row = λ (n : ℕ). proposed_row (is_among in_force line) n line in
+      let row = λ (n : ℕ). proposed_row in_force n line in
       let others = proposed_rows in_force 0 (take k ls) in
       added ∙ ap (λ t. t ++ row (number + 1)) before ∙ append_assoc start others (row (number + 1))
       ∙ ap (λ n. start ++ (others ++ row n)) (sym here)

@@ -7,3 +7,4 @@ mod Noted
 pub mod Standing
 mod Again
 mod UniqueParts
+pub mod Plain

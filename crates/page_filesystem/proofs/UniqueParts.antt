@@ -1,5 +1,5 @@
 -- The part on a file system has one text.
-use Rattle.std.proofs.Common.{◌≡◌, ℕ, ◌+◌, ◌^◌, ◌==◌, ◌++◌, ◌∙◌, Bool, List, [], ◌∷◌, Option, Some, None, ap, arith, drop, get_or, length, map, option_copied, refl, subst, sym}
+use Rattle.std.proofs.Common.{◌≡◌, ℕ, ◌^◌, ◌==◌, ◌++◌, ◌∙◌, Bool, List, [], ◌∷◌, Option, Some, None, ap, arith, drop, get_or, length, map, option_copied, refl, subst, sym}
 use Rattle.std.specs.Prelude.{◌-◌, All, codes, filter, if◌then◌else◌, not, slice_get, take}
 use Rattle.std.proofs.lemmas.List.Elements.{All-head, All-tail}
 use Rattle.desk_text.specs.Network.{Block}
@@ -15,8 +15,10 @@ use Rattle.page_data.specs.Unique.{CountsAreUnique}
 use Rattle.page_data.specs.Values.{AreRunsOfSome}
 use Rattle.page_data.specs.declared.class.Class.{Class}
 use Rattle.page_data.specs.declared.counts.Counts.{Counts}
-use Rattle.page_html.specs.Blocks.{element_html, system_start, tag_html}
-use Rattle.page_html.specs.Items.{Code}
+use Rattle.page_findings.specs.Badges.{measured_items}
+use Rattle.page_findings.specs.declared.badges.Measure.TheVariants.{Share as Shared}
+use Rattle.page_html.specs.Blocks.{element_html, facts_html, system_start, tag_html}
+use Rattle.page_html.specs.Items.{Code, Codes}
 use Rattle.page_html.specs.Ranges.{Ends}
 use Rattle.page_html.specs.declared.blocks.Element.TheVariants.{Heading, Up}
 use Rattle.page_html.specs.declared.blocks.Tag.TheVariants.{SectionEnd}
@@ -26,7 +28,7 @@ use Rattle.page_places.specs.Groups.{groups_text}
 use Rattle.page_places.specs.Lists.{groups_start, not_listed}
 use Rattle.page_filesystem.specs.CountedShares.{AreShares, IsShareFrom, most_networks, private_networks, ranges_of, spaces}
 use Rattle.page_filesystem.specs.Counting.{AreCountsOver, AreCountsOverFrom}
-use Rattle.page_filesystem.specs.Facts.{facts}
+use Rattle.page_filesystem.specs.Facts.{facts, frame, guarded, revision}
 use Rattle.page_filesystem.specs.Findings.{findings_list}
 use Rattle.page_filesystem.specs.Notes.{notes_of}
 use Rattle.page_filesystem.specs.OwnParts.{IsPartOf, own_lines, runs_in, text_of}
@@ -94,9 +96,9 @@ unfolding some_mount
 same_mount mount other is = ap (some_mount mount) is
 
 -- of what its text is made
-abbrev whole : ℕ → List ℕ → Option Head → List (List ℕ) → Bool → Counts → List ℕ → List ℕ → List Note → List ℕ → List ℕ → Shares → ℕ → List ℕ → ℕ → Bool → List ℕ
-whole fs name head custodians guarded counts findings proposal notes text maps shares count groups unlisted others =
-    (system_start fs ++ element_html Heading (Code name ∷ []) ++ facts head custodians guarded counts ++ findings ++ proposal)
+abbrev whole : ℕ → List ℕ → List ℕ → Counts → List ℕ → List ℕ → List Note → List ℕ → List ℕ → Shares → ℕ → List ℕ → ℕ → Bool → List ℕ
+whole fs name told counts findings proposal notes text maps shares count groups unlisted others =
+    (system_start fs ++ element_html Heading (Code name ∷ []) ++ told ++ findings ++ proposal)
     ++ (heading (codes "Text in force") ++ text_block fs name notes text)
     ++ (if counts.denied == 2 ^ 32 then [] else heading (codes "Where its clients are") ++ maps ++ shares_block name shares.shares shares.left_out)
     ++ (groups_start count ++ groups ++ not_listed unlisted others ++ element_html Up way_back ++ tag_html SectionEnd)
@@ -106,7 +108,7 @@ shares_in part = record { shares = part.shares.now; left_out = part.networks_lef
 
 abbrev whole_of : FileSystemPart → List ℕ
 whole_of part =
-    whole part.fs.0 part.name.now (option_copied part.head) part.custodians.now part.guarded part.counts (findings_list part.findings.now)
+    whole part.fs.0 part.name.now (facts part) part.counts (findings_list part.findings.now)
     (proposal_part part part.proposal) part.notes.now part.text.now part.maps.now (shares_in part) part.group_count (groups_text part.fs.0 part.groups.now)
     part.unlisted part.has_unlisted_others
 
@@ -122,22 +124,40 @@ same_proposal part second (Some proposal) (Some other) name guarded text alike =
     proposal_start (alike.author i) (alike.revision i) (guarded i) ++ proposed_text (name i) (text i) (alike.text i) ++ alike.outcome i ++ tag_html SectionEnd
 
 module _ (unique : CountsAreUnique) (given other : FileSystemData) (part second : FileSystemPart) where
-  same_part : AreRunsOfSome (runs_in given) → AreGivenAlike given other → IsPartOf given part → IsPartOf other second → file_system part ≡ file_system second
-  same_part some alike is its =
+  one_mount : AreGivenAlike given other → (is : IsPartOf given part) → (its : IsPartOf other second) → is.mount ≡ its.mount
+  one_mount alike is its =
       let listed : slice_get given.policy.now.table given.fs.0 ≡ slice_get other.policy.now.table other.fs.0 = λ i. slice_get (alike.policy i).table (alike.fs i) in
-      let mount : is.mount ≡ its.mount = same_mount is.mount its.mount (sym is.is_mount ∙ listed ∙ its.is_mount) in
-      let fs : part.fs.0 ≡ second.fs.0 = ap (λ (id : FsId). id.0) is.fs ∙ alike.fs ∙ sym (ap (λ (id : FsId). id.0) its.fs) in
-      let name : part.name.now ≡ second.name.now = is.name ∙ ap (λ (m : Mount). path_text m.path) mount ∙ sym its.name in
+      same_mount is.mount its.mount (sym is.is_mount ∙ listed ∙ its.is_mount)
+
+  one_guarded : AreGivenAlike given other → IsPartOf given part → IsPartOf other second → part.guarded ≡ second.guarded
+  one_guarded alike is its = is.guarded ∙ ap (λ (m : Mount). m.guarded) (one_mount alike is its) ∙ sym its.guarded
+
+  one_counts : AreRunsOfSome (runs_in given) → AreGivenAlike given other → IsPartOf given part → IsPartOf other second → part.counts ≡ second.counts
+  one_counts some alike is its =
+      unique.counts_from (runs_in given) 0 (2 ^ 32 - 1) part.counts second.counts some is.counts
+      (subst (λ (runs : List (Run Class)). AreCountsFrom runs 0 (2 ^ 32 - 1) second.counts) (sym alike.classes) its.counts)
+
+  -- the facts go by their values
+  one_facts : AreRunsOfSome (runs_in given) → AreGivenAlike given other → IsPartOf given part → IsPartOf other second → facts part ≡ facts second
+  one_facts some alike is its =
+      let mount = one_mount alike is its in
       let head : option_copied part.head ≡ option_copied second.head = is.head ∙ alike.head ∙ sym its.head in
       let custodians : part.custodians.now ≡ second.custodians.now = is.custodians ∙ ap (λ (m : Mount). m.custodians) mount ∙ sym its.custodians in
-      let guarded : part.guarded ≡ second.guarded = is.guarded ∙ ap (λ (m : Mount). m.guarded) mount ∙ sym its.guarded in
-      let counts : part.counts ≡ second.counts = unique.counts_from (runs_in given) 0 (2 ^ 32 - 1) part.counts second.counts some is.counts
-      (subst (λ (runs : List (Run Class)). AreCountsFrom runs 0 (2 ^ 32 - 1) second.counts) (sym alike.classes) its.counts) in
+      λ i. facts_html frame
+      (revision (head i) ∷ (Codes (custodians i) ∷ []) ∷ (guarded (one_guarded alike is its i) ∷ []) ∷ measured_items Shared (one_counts some alike is its i) ∷ [])
+
+  same_part : AreRunsOfSome (runs_in given) → AreGivenAlike given other → IsPartOf given part → IsPartOf other second → file_system part ≡ file_system second
+  same_part some alike is its =
+      let mount = one_mount alike is its in
+      let fs : part.fs.0 ≡ second.fs.0 = ap (λ (id : FsId). id.0) is.fs ∙ alike.fs ∙ sym (ap (λ (id : FsId). id.0) its.fs) in
+      let name : part.name.now ≡ second.name.now = is.name ∙ ap (λ (m : Mount). path_text m.path) mount ∙ sym its.name in
+      let told = one_facts some alike is its in
+      let counts = one_counts some alike is its in
       let findings : findings_list part.findings.now ≡ findings_list second.findings.now =
       ap findings_list is.findings ∙ findings_by_value given.findings.now other.findings.now alike.findings ∙ sym (ap findings_list its.findings) in
       let text : part.text.now ≡ second.text.now = is.text ∙ ap text_of alike.head ∙ sym its.text in
       let proposal : proposal_part part part.proposal ≡ proposal_part second second.proposal =
-      ap (proposal_part part) is.proposal ∙ same_proposal part second given.proposal other.proposal name guarded text alike.proposal ∙ sym (ap (proposal_part second) its.proposal) in
+      ap (proposal_part part) is.proposal ∙ same_proposal part second given.proposal other.proposal name (one_guarded alike is its) text alike.proposal ∙ sym (ap (proposal_part second) its.proposal) in
       let notes : part.notes.now ≡ second.notes.now =
       is.notes ∙ notes_by_value (own_lines given) (own_lines other) (text_of (option_copied given.head)) alike.lines
       ∙ ap (λ (of : Option Head). notes_of (own_lines other) (text_of of)) alike.head ∙ sym its.notes in
@@ -152,7 +172,7 @@ module _ (unique : CountsAreUnique) (given other : FileSystemData) (part second 
       ap (groups_text part.fs.0) is.groups ∙ alike.groups part.fs.0 ∙ sym (ap (groups_text part.fs.0) its.groups) ∙ ap (λ n. groups_text n second.groups.now) fs in
       let unlisted : part.unlisted ≡ second.unlisted = is.unlisted ∙ alike.unlisted ∙ sym its.unlisted in
       let others : part.has_unlisted_others ≡ second.has_unlisted_others = is.has_unlisted_others ∙ alike.has_unlisted_others ∙ sym its.has_unlisted_others in
-      λ i. whole (fs i) (name i) (head i) (custodians i) (guarded i) (counts i) (findings i) (proposal i) (notes i) (text i) (maps i) (shares i) (count i) (groups i) (unlisted i) (others i)
+      λ i. whole (fs i) (name i) (told i) (counts i) (findings i) (proposal i) (notes i) (text i) (maps i) (shares i) (count i) (groups i) (unlisted i) (others i)
 
 pub file_systems_are_told_in_one_way : CountsAreUnique → FileSystemsAreToldInOneWay
 file_systems_are_told_in_one_way unique = record {

@@ -1,14 +1,15 @@
 -- The facts of a file system. (this project's own)
 use Rattle.std.specs.Prelude.{ℕ, ◌==◌, Bool, false, List, [], ◌∷◌, ◌++◌, Option, Some, None, codes, if◌then◌else◌}
+use Rattle.std.specs.Option.{option_copied}
 use Rattle.desk_core.specs.declared.head.Head.{Head}
 use Rattle.desk_exports.specs.Profile.{profile_number}
 use Rattle.desk_exports.specs.declared.profile.Profile.{Profile}
-use Rattle.page_data.specs.declared.counts.Counts.{Counts}
 use Rattle.page_html.specs.Blocks.{facts_html}
 use Rattle.page_html.specs.Items.{Code, Codes, Item, Nothing, Number, Own, Words}
 use Rattle.page_html.specs.Tables.{Fact, Frame}
 use Rattle.page_findings.specs.Badges.{measured_items}
 use Rattle.page_findings.specs.declared.badges.Measure.TheVariants.{Share}
+use Rattle.page_filesystem.specs.declared.parts.FileSystemPart.{FileSystemPart}
 
 -- the terms of the facts
 abbrev pub frame : Frame
@@ -46,9 +47,9 @@ guarded is_guarded =
 
 -- The facts of a file system: the newest revision of its file, who keeps that, whether it is guarded, and how many addresses may mount some
 -- directory.
-abbrev pub fact_cells : Option Head → List (List ℕ) → Bool → Counts → List (List (Item (List ℕ)))
-fact_cells head custodians is_guarded counts =
-    revision head ∷ (Codes custodians ∷ []) ∷ (guarded is_guarded ∷ []) ∷ measured_items Share counts ∷ []
+abbrev pub fact_cells : FileSystemPart → List (List (Item (List ℕ)))
+fact_cells part =
+    revision (option_copied part.head) ∷ (Codes part.custodians.now ∷ []) ∷ (guarded part.guarded ∷ []) ∷ measured_items Share part.counts ∷ []
 
-abbrev pub facts : Option Head → List (List ℕ) → Bool → Counts → List ℕ
-facts head custodians is_guarded counts = facts_html frame (fact_cells head custodians is_guarded counts)
+abbrev pub facts : FileSystemPart → List ℕ
+facts part = facts_html frame (fact_cells part)

@@ -1,5 +1,5 @@
 -- What is said of each logical line of the text of a file. (this project's own, over exports(5))
-use Rattle.std.specs.Prelude.{ℕ, ◌<◌, ◌==◌, false, List, [], ◌∷◌, Option, Some, find, if◌then◌else◌}
+use Rattle.std.specs.Prelude.{ℕ, ◌<◌, ◌==◌, List, [], ◌∷◌, Option, Some, None, find, if◌then◌else◌}
 use Rattle.std.specs.List.{AllPairs, filter_map}
 use Rattle.std.specs.Option.{option_map}
 use Rattle.desk_text.specs.Lines.{LogicalLine, logical_lines}
@@ -12,7 +12,8 @@ use Rattle.page_findings.specs.Findings.{stands_out}
 use Rattle.page_findings.specs.Lines.{LineValue}
 use Rattle.page_filesystem.specs.declared.gutter.Note.{Note}
 use Rattle.page_filesystem.specs.declared.gutter.Said.{Said}
-use Rattle.page_filesystem.specs.declared.gutter.Said.TheVariants.{Grants, MatchesNobody, NeverDecides, NotRead}
+use Rattle.page_filesystem.specs.declared.gutter.Told.{Told}
+use Rattle.page_filesystem.specs.declared.gutter.Said.TheVariants.{Grants, MatchesNobody, NeverDecides}
 
 -- what a line grants, whether it is for everybody, and to how many addresses it grants something
 abbrev pub granted : LineValue → Said
@@ -29,13 +30,16 @@ abbrev pub said_for : LineValue → List Reason → Said
 said_for line [] = granted line
 said_for line (reason ∷ others) = said_by line reason
 
--- what is said of a line of the file system
+-- what is told of a line of the file system
+abbrev pub site_line_told : LineValue → Told
+site_line_told line = record { said = said_for line line.reasons; stands_out = stands_out line }
+
 abbrev pub site_line_note : LineValue → Note
-site_line_note line = record { line = line.row.entry.line; said = said_for line line.reasons; stands_out = stands_out line }
+site_line_note line = record { line = line.row.entry.line; told = Some (site_line_told line) }
 
 -- that a line is not read
 abbrev pub not_read : ℕ → Note
-not_read number = record { line = number; said = NotRead; stands_out = false }
+not_read number = record { line = number; told = None }
 
 -- the line of a file system with this number
 abbrev pub line_at : List LineValue → ℕ → Option LineValue

@@ -1,7 +1,6 @@
 -- The part of the page that tells of one file system, given its maps as HTML. (this project's own)
 use Rattle.std.specs.Prelude.{◌≡◌, ℕ, ◌+◌, ◌<◌, ◌==◌, ◌^◌, All, IfSome, List, [], ◌∷◌, ◌++◌, Option, Some, None, codes, if◌then◌else◌}
 use Rattle.std.specs.List.{AllPairs}
-use Rattle.std.specs.Option.{option_copied}
 use Rattle.desk_text.specs.Lines.{IsReadable}
 use Rattle.page_html.specs.Blocks.{element_html, system_start, tag_html}
 use Rattle.page_html.specs.Items.{Code, Item, Link, Own}
@@ -46,8 +45,7 @@ proposal_part part (Some proposal) = proposal_text part proposal
 abbrev pub head_part : FileSystemPart → List ℕ
 head_part part =
     system_start part.fs.0 ++ element_html Heading (Code part.name.now ∷ [])
-    ++ facts (option_copied part.head) part.custodians.now part.guarded part.counts ++ findings_list part.findings.now
-    ++ proposal_part part part.proposal
+    ++ facts part ++ findings_list part.findings.now ++ proposal_part part part.proposal
 
 -- the text in force
 abbrev pub text_part : FileSystemPart → List ℕ

@@ -37,24 +37,24 @@ frame = record {
   columns = Name (codes "Line") ∷ Plain (codes "In force?") ∷ Plain (codes "Text") ∷ [];
 }
 
--- the row of a line, which stands out if it is not in force
-abbrev pub not_yet : Bool → Item (List ℕ)
-not_yet is_in_force = if is_in_force then Own Nothing else Own (Strong (codes "not yet"))
-
-abbrev pub proposed_cells : Bool → ℕ → List ℕ → List (List (Item (List ℕ)))
-proposed_cells is_in_force number line = (Own (Digits number) ∷ []) ∷ (not_yet is_in_force ∷ []) ∷ (Line line ∷ []) ∷ []
-
-abbrev pub proposed_row : Bool → ℕ → List ℕ → List ℕ
-proposed_row is_in_force number line = marked_row_html (not is_in_force) frame (proposed_cells is_in_force number line)
-
 -- a line is one of these
 abbrev pub is_among : List (List ℕ) → List ℕ → Bool
 is_among given line = list_any (bytes_eq line) given
 
--- the rows of physical lines, before which there are so many, given which lines are in force
+-- the row of a line, which stands out if it is not in force, given which lines are
+abbrev pub not_yet : Bool → Item (List ℕ)
+not_yet is_in_force = if is_in_force then Own Nothing else Own (Strong (codes "not yet"))
+
+abbrev pub proposed_cells : List (List ℕ) → ℕ → List ℕ → List (List (Item (List ℕ)))
+proposed_cells in_force number line = (Own (Digits number) ∷ []) ∷ (not_yet (is_among in_force line) ∷ []) ∷ (Line line ∷ []) ∷ []
+
+abbrev pub proposed_row : List (List ℕ) → ℕ → List ℕ → List ℕ
+proposed_row in_force number line = marked_row_html (not (is_among in_force line)) frame (proposed_cells in_force number line)
+
+-- the rows of physical lines, before which there are so many
 abbrev pub proposed_rows : List (List ℕ) → ℕ → List (List ℕ) → List ℕ
 proposed_rows in_force before [] = []
-proposed_rows in_force before (line ∷ others) = proposed_row (is_among in_force line) (before + 1) line ++ proposed_rows in_force (before + 1) others
+proposed_rows in_force before (line ∷ others) = proposed_row in_force (before + 1) line ++ proposed_rows in_force (before + 1) others
 
 -- The text that is proposed in the place of the one in force.
 abbrev pub proposed_text : List ℕ → List ℕ → List ℕ → List ℕ

@@ -7,7 +7,7 @@ use Rattle.page_html.specs.Tables.{Count, Frame, Name, Plain, line_row_html, tab
 use Rattle.page_html.specs.Titles.{Named, Said}
 use Rattle.page_html.specs.declared.blocks.Element.TheVariants.{Fold, Paragraph}
 use Rattle.page_html.specs.declared.blocks.Tag.TheVariants.{FoldEnd, TableEnd}
-use Rattle.page_filesystem.specs.Gutter.{count_item, note_on, said_items, stands_out}
+use Rattle.page_filesystem.specs.Gutter.{count_item, note_on, said_items, stands_out, told_of}
 use Rattle.page_filesystem.specs.declared.gutter.Note.{Note}
 
 -- the table
@@ -20,10 +20,10 @@ frame = record {
 
 -- the row of a physical line, given the note on it: its number, what it does, to how many addresses, and the line itself
 abbrev pub text_cells : ℕ → Option Note → List ℕ → List (List (Item (List ℕ)))
-text_cells number note line = (Own (Digits number) ∷ []) ∷ said_items note ∷ (count_item note ∷ []) ∷ (Line line ∷ []) ∷ []
+text_cells number note line = (Own (Digits number) ∷ []) ∷ said_items note ∷ (count_item (told_of note) ∷ []) ∷ (Line line ∷ []) ∷ []
 
 abbrev pub text_row_with : ℕ → ℕ → Option Note → List ℕ → List ℕ
-text_row_with fs number note line = line_row_html fs number (stands_out note) frame (text_cells number note line)
+text_row_with fs number note line = line_row_html fs number (stands_out (told_of note)) frame (text_cells number note line)
 
 abbrev pub text_row : ℕ → List Note → ℕ → List ℕ → List ℕ
 text_row fs notes number line = text_row_with fs number (note_on notes number) line

@@ -6,10 +6,10 @@ ghost use Rattle.std.specs.String.{string_bytes};
 ghost use Rattle.page_html.specs.Parts.{item_of};
 ghost use Rattle.page_filesystem.specs.Facts as spec;
 
+use crate::parts::FileSystemPart;
 use desk_core::Head;
 use desk_exports::Profile;
 use desk_text::Text;
-use page_data::Counts;
 use page_findings::{Measure, measured};
 use page_html::{Column, Frame, Part, four_cells};
 use std::alloc::{AllocError, Global};
@@ -30,23 +30,20 @@ const FACTS: Frame = Frame {
 /// mount some directory.
 pub fn push_facts(
     alloc: Global,
-    head: Option<&Head>,
-    custodians: &[Text],
-    guarded: bool,
-    counts: &Counts,
+    part: &FileSystemPart<'_, '_>,
     page: &mut String,
 ) -> Result<(), AllocError>
-    ensures { OnOk result (string_bytes page.new ≡ string_bytes page.old ++ spec.facts (option_copied head.entry) custodians.now guarded counts.now) }
+    ensures { OnOk result (string_bytes page.new ≡ string_bytes page.old ++ spec.facts part.now) }
 {
-    let revision = revision_parts(alloc, head)?;
-    let may_mount = measured(alloc, Measure::Share, counts)?;
+    let revision = revision_parts(alloc, part.head)?;
+    let may_mount = measured(alloc, Measure::Share, &part.counts)?;
     page_html::push_facts(
         alloc,
         &FACTS,
         &four_cells(
             revision.as_slice(),
-            &[Part::Codes(custodians)],
-            &[guarded_part(guarded)],
+            &[Part::Codes(part.custodians)],
+            &[guarded_part(part.guarded)],
             may_mount.as_slice(),
         ),
         page,

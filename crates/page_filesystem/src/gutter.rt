@@ -22,16 +22,20 @@ pub enum Said {
     MatchesNobody,
     /// It decides nothing for the addresses that it matches.
     NeverDecides,
-    /// It is of NFS version 4, and is not read.
-    NotRead,
 }
 
-/// A logical line by the number of its first physical line, what it does, and whether it stands out.
+/// What is told of a line that is read: what it does, and whether it stands out.
+#[derive(Clone, Copy)]
+pub struct Told {
+    pub said: Said,
+    pub stands_out: bool,
+}
+
+/// A logical line by the number of its first physical line, and what is told of it, unless it is of NFS version 4, and is not read.
 #[derive(Clone, Copy)]
 pub struct Note {
     pub line: u32,
-    pub said: Said,
-    pub stands_out: bool,
+    pub told: Option<Told>,
 }
 
 /// Finds the note on a line, by a binary search.
@@ -51,7 +55,17 @@ pub(crate) fn said_parts<'a>(note: Option<Note>) -> [Part<'a>; 3]
 {
     match note {
         None => [Part::Nothing, Part::Nothing, Part::Nothing],
-        Some(note) => does(note.said),
+        Some(note) => told_parts(note.told),
+    }
+}
+
+/// Returns what is said of a logical line.
+fn told_parts<'a>(told: Option<Told>) -> [Part<'a>; 3]
+    ensures { map item_of result ≡ spec.told_items told }
+{
+    match told {
+        None => [Part::Zero("not read"), Part::Nothing, Part::Nothing],
+        Some(told) => does(told.said),
     }
 }
 
@@ -72,17 +86,26 @@ fn does<'a>(said: Said) -> [Part<'a>; 3]
         Said::Grants { class, .. } => [badge_part(class), Part::Nothing, Part::Nothing],
         Said::MatchesNobody => [Part::Strong("matches nobody"), Part::Nothing, Part::Nothing],
         Said::NeverDecides => [Part::Strong("never decides"), Part::Nothing, Part::Nothing],
-        Said::NotRead => [Part::Zero("not read"), Part::Nothing, Part::Nothing],
+    }
+}
+
+/// Returns what is told of a line, if it begins a logical line that is read.
+pub(crate) fn told_of(note: Option<Note>) -> Option<Told>
+    ensures { result ≡ spec.told_of note }
+{
+    match note {
+        Some(note) => note.told,
+        None => None,
     }
 }
 
 /// Returns to how many addresses a line grants something, if it does.
-pub(crate) fn count_part<'a>(note: Option<Note>) -> Part<'a>
-    ensures { item_of result ≡ spec.count_item note }
+pub(crate) fn count_part<'a>(told: Option<Told>) -> Part<'a>
+    ensures { item_of result ≡ spec.count_item told }
 {
-    match note {
+    match told {
         Some(
-            Note {
+            Told {
                 said: Said::Grants { count, .. },
                 ..
             },
@@ -92,11 +115,11 @@ pub(crate) fn count_part<'a>(note: Option<Note>) -> Part<'a>
 }
 
 /// Tests whether a line stands out.
-pub(crate) fn stands_out(note: Option<Note>) -> bool
-    ensures { result ≡ spec.stands_out note }
+pub(crate) fn stands_out(told: Option<Told>) -> bool
+    ensures { result ≡ spec.stands_out told }
 {
-    match note {
-        Some(note) => note.stands_out,
+    match told {
+        Some(told) => told.stands_out,
         None => false,
     }
 }

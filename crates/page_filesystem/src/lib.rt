@@ -27,7 +27,7 @@ pub use counted_shares::{Shares, shares_of};
 pub use counting::all_counts;
 pub use facts::push_facts;
 pub use findings::push_findings;
-pub use gutter::{Note, Said};
+pub use gutter::{Note, Said, Told};
 pub use laws::{each_line_has_a_note, file_systems_are_told_in_one_way, outside_is_outside};
 pub use notes::notes_of;
 pub use outcomes::{Outcome, push_outcome};

@@ -8,7 +8,7 @@ ghost use Rattle.page_findings.specs.Lines.{line_value};
 ghost use Rattle.page_filesystem.specs.Notes as spec;
 ghost use Rattle.page_filesystem.specs.Notes.{LinesAscend, NotesAscend};
 
-use crate::gutter::{Note, Said};
+use crate::gutter::{Note, Said, Told};
 use desk_exports::lines::read_grammar_line;
 use desk_text::{Line, LogicalLines, ReadError};
 use page_data::reasons::are_all;
@@ -90,8 +90,7 @@ fn not_read(number: u32) -> Note
 {
     Note {
         line: number,
-        said: Said::NotRead,
-        stands_out: false,
+        told: None,
     }
 }
 
@@ -101,6 +100,15 @@ fn site_line_note(line: &SiteLine<'_>) -> Note
 {
     Note {
         line: line.row.entry.line,
+        told: Some(site_line_told(line)),
+    }
+}
+
+/// Tells what a line does, and whether it stands out.
+fn site_line_told(line: &SiteLine<'_>) -> Told
+    ensures { result ≡ spec.site_line_told (line_value line.now) }
+{
+    Told {
         said: said_of(line),
         stands_out: line.stands_out(),
     }

@@ -85,14 +85,7 @@ fn push_head_part(
 {
     push_system_start(part.fs, page)?;
     push_element(alloc, Element::Heading, &[Part::Code(part.name)], page)?;
-    push_facts(
-        alloc,
-        part.head,
-        part.custodians,
-        part.guarded,
-        &part.counts,
-        page,
-    )?;
+    push_facts(alloc, part, page)?;
     push_findings(alloc, part.findings, page)?;
     push_proposal(alloc, part, page)
 }

@@ -111,7 +111,7 @@ fn push_proposed_rows(
     let mut number = 0;
     for line in text.lines() {
         number += 1;
-        push_proposed_row(alloc, number, known.contains(line), line, page)?;
+        push_proposed_row(alloc, known, number, line, page)?;
     }
     Ok(())
 }
@@ -119,19 +119,26 @@ fn push_proposed_rows(
 /// Adds the row of a line, which stands out if it is not in force.
 fn push_proposed_row(
     alloc: Global,
+    known: &BTreeSet<&str>,
     number: u32,
-    is_in_force: bool,
     line: &str,
     page: &mut String,
 ) -> Result<(), AllocError>
-    ensures { OnOk result (string_bytes page.new ≡ string_bytes page.old ++ spec.proposed_row is_in_force number line.now) }
+    ensures { OnOk result ((given : List (List ℕ)) → HasLines given known.now
+        → string_bytes page.new ≡ string_bytes page.old ++ spec.proposed_row given number line.now) }
 {
-    let cells: [&[Part<'_>]; 3] = [
-        &[Part::Digits(number)],
-        &[not_yet(is_in_force)],
-        &[Part::Line(line)],
-    ];
-    push_marked_row(alloc, &PROPOSED, !is_in_force, &cells, page)
+    let is_in_force = known.contains(line);
+    push_marked_row(
+        alloc,
+        &PROPOSED,
+        !is_in_force,
+        &[
+            &[Part::Digits(number)],
+            &[not_yet(is_in_force)],
+            &[Part::Line(line)],
+        ],
+        page,
+    )
 }
 
 /// Returns what is said of a line.

@@ -111,19 +111,23 @@ fn push_share(alloc: Global, share: &Share, page: &mut String) -> Result<(), All
 {
     let granted = share.counts.granted();
     let size = share.counts.denied + granted;
-    let cells: [&[Part<'_>]; 6] = [
-        &[space_part(share.space)],
-        &[Part::Number(size)],
-        &[count_part(share.counts.read_only)],
-        &[count_part(share.counts.read_write)],
-        &[count_part(share.counts.root_kept)],
+    push_row(
+        alloc,
+        &SHARES,
         &[
-            Part::PartOf(granted, size),
-            Part::Words(" "),
-            Part::SmallPercent(granted, size),
+            &[space_part(share.space)],
+            &[Part::Number(size)],
+            &[count_part(share.counts.read_only)],
+            &[count_part(share.counts.read_write)],
+            &[count_part(share.counts.root_kept)],
+            &[
+                Part::PartOf(granted, size),
+                Part::Words(" "),
+                Part::SmallPercent(granted, size),
+            ],
         ],
-    ];
-    push_row(alloc, &SHARES, &cells, page)
+        page,
+    )
 }
 
 /// Returns what the addresses are called.

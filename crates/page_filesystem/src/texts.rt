@@ -7,7 +7,7 @@ ghost use Rattle.std.specs.String.{string_bytes};
 ghost use Rattle.desk_text.specs.Lines.{IsReadable};
 ghost use Rattle.page_filesystem.specs.Texts as spec;
 
-use crate::gutter::{Note, count_part, note_on, said_parts, stands_out};
+use crate::gutter::{Note, count_part, note_on, said_parts, stands_out, told_of};
 use desk_tables::FsId;
 use page_html::{
     Column, Element, Frame, Part, Tag, Title, push_element, push_line_row, push_table_start,
@@ -173,12 +173,20 @@ fn push_text_row(
 ) -> Result<(), AllocError>
     ensures { OnOk result (string_bytes page.new ≡ string_bytes page.old ++ spec.text_row_with fs.0 number note line.now) }
 {
+    let told = told_of(note);
     let said = said_parts(note);
-    let cells: [&[Part<'_>]; 4] = [
-        &[Part::Digits(number)],
-        &said,
-        &[count_part(note)],
-        &[Part::Line(line)],
-    ];
-    push_line_row(alloc, &TEXT, fs, number, stands_out(note), &cells, page)
+    push_line_row(
+        alloc,
+        &TEXT,
+        fs,
+        number,
+        stands_out(told),
+        &[
+            &[Part::Digits(number)],
+            &said,
+            &[count_part(told)],
+            &[Part::Line(line)],
+        ],
+        page,
+    )
 }

@@ -10,3 +10,4 @@ pub mod WithLines
 mod StableSorts
 mod UniqueChanges
 mod UniqueGroups
+pub mod Plain

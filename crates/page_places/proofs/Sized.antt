@@ -1,12 +1,13 @@
 -- The rows of a table have no more addresses than there are.
 use Rattle.std.proofs.Common.{◌≡◌, ◌+◌, ◌≤◌, ◌^◌, ◌∙◌, ℕ, Bool, true, false, cond, List, [], ◌∷◌, ap, arith, map, refl, sym}
-use Rattle.std.specs.Prelude.{Some, None, IfSome, filter, not}
+use Rattle.std.specs.Prelude.{Some, None, IfSome, Result, filter, not}
 use Rattle.std.specs.List.{AllByRecursion, sum_by}
 use Rattle.std.proofs.lemmas.List.Elements.{All-from_recursion}
 use Rattle.std.proofs.lemmas.List.Sums.{sum_by-cons}
-use Rattle.desk_policy.specs.declared.verdict.Verdict.{Verdict}
+use Rattle.desk_policy.specs.Verdict.{Grant}
+use Rattle.desk_policy.specs.declared.verdict.Denial.{Denial}
+use Rattle.desk_who.specs.Runs.{Run}
 use Rattle.desk_who.specs.Who.{range_value}
-use Rattle.desk_who.specs.declared.runs.Run.{Run as KeptRun}
 use Rattle.desk_impact.specs.Places.{Others}
 use Rattle.page_data.specs.Laws.{TablesAddUp}
 use Rattle.page_data.specs.Rows as report
@@ -22,11 +23,11 @@ in_two_steps f g [] = refl
 in_two_steps f g (x ∷ xs) = ap (λ ys. f (g x) ∷ ys) (in_two_steps f g xs)
 
 -- ranges have as many addresses with their verdicts as without
-same_sizes : (ranges : List (KeptRun Verdict)) → size_of (map span_of ranges) ≡ addresses_in (map range_value ranges)
+same_sizes : (ranges : List (Run (Result Grant Denial))) → size_of (map span_of ranges) ≡ addresses_in ranges
 same_sizes [] = refl
 same_sizes (range ∷ ranges) =
     sum_by-cons span_size (span_of range) (map span_of ranges) ∙ ap (λ n. span_size (span_of range) + n) (same_sizes ranges)
-    ∙ sym (sum_by-cons range_size (range_value range) (map range_value ranges))
+    ∙ sym (sum_by-cons range_size range ranges)
 
 abbrev granted : List TableRow → ℕ
 granted rows = sum_by row_size (filter grants_row (map report.row_value rows))
@@ -54,7 +55,7 @@ each_sized : (rows : List TableRow) → granted rows + denied rows ≤ 2 ^ 32 �
 each_sized [] all = tt
 each_sized (row ∷ rows) all =
     let first = first_row row rows in
-    let size = same_sizes row.ranges in
+    let size = same_sizes (map range_value row.ranges) in
     (omega arith, each_sized rows (omega arith))
 
 sized_if : (joined : Bool) (count : ℕ) → count ≤ 2 ^ 32 → IfSome (cond joined None (Some count)) (λ n. n ≤ 2 ^ 32)

@@ -1,6 +1,6 @@
 -- What changes at the places of a file system is one list, and its text goes by the values of the changes.
-use Rattle.std.proofs.Common.{◌≡◌, ℕ, ◌+◌, ◌++◌, ◌∙◌, List, [], ◌∷◌, ap, arith, drop, get_or, length, map, refl, subst, sym}
-use Rattle.std.specs.Prelude.{◌-◌, ◌==◌, All, Option, Some, None, codes, count_by, nat_le, if◌then◌else◌}
+use Rattle.std.proofs.Common.{◌≡◌, ℕ, ◌++◌, ◌∙◌, List, [], ◌∷◌, ap, arith, drop, get_or, length, map, refl, subst, sym}
+use Rattle.std.specs.Prelude.{◌==◌, All, Option, Some, None, codes, count_by, nat_le, if◌then◌else◌}
 use Rattle.std.specs.List.{flat_map}
 use Rattle.std.proofs.lemmas.List.{length-map}
 use Rattle.std.proofs.lemmas.List.Elements.{All-head, All-tail, filter_agree}
@@ -10,17 +10,16 @@ use Rattle.desk_impact.specs.Impact.{AreThoseThat, ImpactsAreUnique, Matters, Tw
 use Rattle.desk_impact.specs.Places.{Place, place_verdicts}
 use Rattle.desk_impact.proofs.Telling.{same_test}
 use Rattle.page_data.specs.Unique.{PlacesAreUnique}
-use Rattle.page_findings.proofs.Mapped.{map_twice}
+use Rattle.page_html.proofs.OneOrder.{told_alike}
 use Rattle.page_html.specs.Blocks.{element_html, tag_html}
-use Rattle.page_html.specs.Items.{Item, Number, Own, Plural, Range}
+use Rattle.page_html.specs.Items.{Item, Own, Plural}
 use Rattle.page_html.specs.Tables.{rows_html, table_start}
 use Rattle.page_html.specs.Titles.{Said}
 use Rattle.page_html.specs.declared.blocks.Element.TheVariants.{Fold}
 use Rattle.page_html.specs.declared.blocks.Tag.TheVariants.{FoldEnd, TableEnd}
-use Rattle.page_places.specs.ChangeRows.{change_cells, change_frame, changes_block, no_change, silent_words, verdict_items}
+use Rattle.page_places.specs.ChangeRows.{cells, change_cells, change_frame, changes_block, no_change, silent_words}
 use Rattle.page_places.specs.Changes.{AreChangesIn, ChangesValue, IsImpactAt, PlaceChange, PlaceImpact, changes_at, row_value}
 use Rattle.page_places.specs.Directories.{ArePlacesOf, places_with}
-use Rattle.page_places.specs.Names.{place_item}
 use Rattle.page_places.specs.UniqueLaws.{ChangesAreToldInOneWay}
 use Rattle.page_places.specs.Widening.{AreSoManyIn, widens}
 use Rattle.page_places.specs.declared.change_rows.ChangeRow.{ChangeRow}
@@ -78,15 +77,6 @@ module _ (unique : PlacesAreUnique) (impacts : ImpactsAreUnique) (before after :
         are.count_is ∙ ap (λ (changes : ChangesValue). count_by widens changes.rows) (changes_in_one_way are.changes its.changes are.are its.are) ∙ sym its.count_is
 
 -- ---- the text
-cells_of : PlaceChange → List (List (Item (List ℕ)))
-cells_of one =
-    (place_item one.place ∷ []) ∷ (Own (Range (record { first = record { number = one.change.first }; last = record { number = one.change.last } })) ∷ [])
-    ∷ (Own (Number (one.change.last + 1 - one.change.first)) ∷ []) ∷ verdict_items one.change.value.before ∷ verdict_items one.change.value.after ∷ []
-
-cells_by : (rows : List ChangeRow) → map change_cells rows ≡ map cells_of (map row_value rows)
-unfolding cells_of
-cells_by rows = sym (map_twice row_value cells_of rows)
-
 abbrev table_of : List (List (List (Item (List ℕ)))) → List ℕ
 table_of all = table_start change_frame (Said (codes "What it would change") ∷ []) ++ rows_html change_frame all ++ tag_html TableEnd
 
@@ -100,8 +90,8 @@ block silent count all =
 text_by : (rows others : List ChangeRow) (silent : ℕ) → map row_value rows ≡ map row_value others → changes_block rows silent ≡ changes_block others silent
 text_by rows others silent same =
     let many : length rows ≡ length others = sym (length-map rows row_value) ∙ ap length same ∙ length-map others row_value in
-    let cells : map change_cells rows ≡ map change_cells others = cells_by rows ∙ ap (map cells_of) same ∙ sym (cells_by others) in
-    λ i. block silent (many i) (cells i)
+    let told : map change_cells rows ≡ map change_cells others = told_alike row_value change_cells cells (λ row. refl) rows others same in
+    λ i. block silent (many i) (told i)
 
 pub changes_are_told_in_one_way : PlacesAreUnique → ImpactsAreUnique → ChangesAreToldInOneWay
 changes_are_told_in_one_way unique impacts = record {

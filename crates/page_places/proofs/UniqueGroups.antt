@@ -1,5 +1,5 @@
 -- The groups of a file system are told in one way: each has one table, one text of maps, and, by value, one list of what the server grants.
-use Rattle.std.proofs.Common.{◌≡◌, ℕ, zero, suc, ◌+◌, ◌++◌, ◌∙◌, Bool, true, false, List, [], ◌∷◌, ap, arith, drop, get_or, length, map, refl, subst, sym, take}
+use Rattle.std.proofs.Common.{◌≡◌, ℕ, zero, suc, ◌++◌, ◌∙◌, Bool, true, false, List, [], ◌∷◌, ap, arith, drop, get_or, length, map, refl, subst, sym, take}
 use Rattle.std.specs.Prelude.{◌==◌, ◌&&◌, All, Some, None, Result, codes, if◌then◌else◌}
 use Rattle.std.specs.Cmp.Lexicographic.{nat_list_cmp_total, slice_cmp}
 use Rattle.std.specs.List.{dedup, flat_map}
@@ -9,10 +9,9 @@ use Rattle.std.proofs.lemmas.List.{length-map, take-map}
 use Rattle.std.proofs.lemmas.List.Elements.{All-head, All-tail, All-take}
 use Rattle.std.proofs.lemmas.List.Folds.{flat_map-map}
 use Rattle.std.proofs.lemmas.List.Sorted.{ranks_by}
-use Rattle.desk_policy.specs.Verdict.{Grant, verdict_result}
+use Rattle.desk_policy.specs.Verdict.{Grant}
 use Rattle.desk_policy.specs.declared.verdict.Denial.{Denial}
 use Rattle.desk_who.specs.Runs.{Run}
-use Rattle.desk_who.specs.Who.{range_value}
 use Rattle.desk_impact.specs.Sections.{PlaceBreaches, PlaceFound}
 use Rattle.page_data.specs.Class.{class_of}
 use Rattle.page_data.specs.Groups.{group_value}
@@ -24,7 +23,6 @@ use Rattle.page_data.specs.Unique.{CountsAreUnique, GroupsAreUnique}
 use Rattle.page_data.specs.Values.{AreRunsOfSome}
 use Rattle.page_data.specs.declared.class.Class.{Class}
 use Rattle.page_data.specs.declared.opening.Opening.{Opening}
-use Rattle.page_data.specs.declared.rows.TableRow.{TableRow}
 use Rattle.page_data.specs.declared.tables.Table.{Table}
 use Rattle.page_findings.specs.Joining.{comma, joined}
 use Rattle.page_findings.proofs.Mapped.{dedup_mapped, map_twice}
@@ -32,7 +30,6 @@ use Rattle.page_html.specs.Blocks.{element_html, tag_html}
 use Rattle.page_html.specs.Items.{AndMore, Item, LineLink, Own, Range, Words}
 use Rattle.page_html.specs.declared.blocks.Element.TheVariants.{Paragraph}
 use Rattle.page_html.specs.declared.blocks.Tag.TheVariants.{PlaceStart, SectionEnd}
-use Rattle.page_html.specs.declared.ranges.Span.{Span}
 use Rattle.page_maps.specs.Figures.{GainsGroupMaps}
 use Rattle.page_maps.specs.Laws.{MapsAreToldInOneWay}
 use Rattle.page_places.specs.Groups.{group_block, group_text, groups_text, who_block}
@@ -41,7 +38,7 @@ use Rattle.page_places.specs.ListedOpenings.{AreOpeningsOf}
 use Rattle.page_places.specs.Maps.{AreMapsIf, AreMapsOf, AreMapsOfGroup, are_drawn, grants_some}
 use Rattle.page_places.specs.Names.{heading, members_in, place_item}
 use Rattle.page_places.specs.Openings.{OpeningValue, opening_items, opening_value, openings_text}
-use Rattle.page_places.specs.Rows.{RowValue, row_value}
+use Rattle.page_places.specs.Rows.{RowValue, told_row}
 use Rattle.page_places.specs.Tables.{TableValue, others_of, told_value}
 use Rattle.page_places.specs.UniqueLaws.{GroupsAreToldInOneWay}
 use Rattle.page_places.specs.declared.groups.GroupPart.{GroupPart}
@@ -102,25 +99,12 @@ module _ (fs : ℕ) where
       ∙ ap (λ n. whole (length (map opening_value openings)) (joined (items_of fs) comma (take 6 (map opening_value openings))) n) (dropped_by opening_value 6 openings)
 
 -- ---- tables, by value
-span_at : Run (Result Grant Denial) → Span
-span_at run = record { first = record { number = run.first }; last = record { number = run.last } }
-
-told_row : kept.RowValue → RowValue
-told_row row = record { verdict = row.verdict; spans = map span_at row.ranges }
-
-rows_by : (rows : List TableRow) → map row_value rows ≡ map told_row (map kept.row_value rows)
-unfolding told_row span_at
-rows_by [] = refl
-rows_by (row ∷ rows) =
-    ap (λ (spans : List Span). record { verdict = verdict_result row.verdict; spans = spans } ∷ map row_value rows) (sym (map_twice range_value span_at row.ranges))
-    ∙ ap (λ (others : List RowValue). told_row (kept.row_value row) ∷ others) (rows_by rows)
-
 told_by : tables.TableValue → TableValue
 told_by table = record { rows = map told_row table.rows; others = if table.denials == 0 then None else Some table.others }
 
 told_is : (table : Table) → told_value table ≡ told_by (table_value table)
 unfolding told_by
-told_is table = ap (λ (rows : List RowValue). record { rows = rows; others = others_of table }) (rows_by table.rows)
+told_is table = ap (λ (rows : List RowValue). record { rows = rows; others = others_of table }) (sym (map_twice kept.row_value told_row table.rows))
 
 -- ---- maps
 module _ (counts : CountsAreUnique) (maps_told : MapsAreToldInOneWay) (ranges : List (Run (Result Grant Denial))) (some : AreRunsOfSome ranges) where

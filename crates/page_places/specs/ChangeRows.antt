@@ -1,8 +1,9 @@
 -- What a proposal would change, and for whom. (this project's own)
 use Rattle.std.specs.Prelude.{ℕ, ◌==◌, true, List, [], ◌∷◌, ◌++◌, Result, Ok, Err, codes, length, map, nat_le, if◌then◌else◌}
-use Rattle.desk_policy.specs.Verdict.{Grant, verdict_result}
+use Rattle.desk_policy.specs.Verdict.{Grant}
 use Rattle.desk_policy.specs.declared.verdict.Denial.{Denial}
-use Rattle.desk_impact.specs.Places.{place_of}
+use Rattle.desk_who.specs.Runs.{Run}
+use Rattle.desk_impact.specs.Impact.{TwoVerdicts}
 use Rattle.page_data.specs.Class.{class_of}
 use Rattle.page_html.specs.Blocks.{element_html, tag_html}
 use Rattle.page_html.specs.Items.{Digits, Item, Nothing, Number, Own, Plural, Range, Terms, Words}
@@ -12,6 +13,7 @@ use Rattle.page_html.specs.declared.blocks.Element.TheVariants.{Fold, Paragraph}
 use Rattle.page_html.specs.declared.blocks.Tag.TheVariants.{FoldEnd, TableEnd}
 use Rattle.page_html.specs.declared.ranges.Span.{Span}
 use Rattle.page_findings.specs.Badges.{badge_item}
+use Rattle.page_places.specs.Changes.{PlaceChange, row_value}
 use Rattle.page_places.specs.Names.{place_item}
 use Rattle.page_places.specs.Rows.{span_size}
 use Rattle.page_places.specs.declared.change_rows.ChangeRow.{ChangeRow}
@@ -35,13 +37,16 @@ abbrev pub verdict_items : Result Grant Denial → List (Item (List ℕ))
 verdict_items verdict = badge_item (class_of verdict) ∷ words_behind verdict
 
 -- where something changes, for which addresses, how many they are, and what their verdict is now and then
-abbrev pub span_of : ChangeRow → Span
-span_of row = record { first = row.first; last = row.last }
+abbrev pub span_of : Run TwoVerdicts → Span
+span_of change = record { first = record { number = change.first }; last = record { number = change.last } }
+
+abbrev pub cells : PlaceChange → List (List (Item (List ℕ)))
+cells one =
+    (place_item one.place ∷ []) ∷ (Own (Range (span_of one.change)) ∷ []) ∷ (Own (Number (span_size (span_of one.change))) ∷ [])
+    ∷ verdict_items one.change.value.before ∷ verdict_items one.change.value.after ∷ []
 
 abbrev pub change_cells : ChangeRow → List (List (Item (List ℕ)))
-change_cells row =
-    (place_item (place_of row.place) ∷ []) ∷ (Own (Range (span_of row)) ∷ []) ∷ (Own (Number (span_size (span_of row))) ∷ [])
-    ∷ verdict_items (verdict_result row.before) ∷ verdict_items (verdict_result row.after) ∷ []
+change_cells row = cells (row_value row)
 
 abbrev pub change_table : List ChangeRow → List ℕ
 change_table rows =

@@ -1,12 +1,12 @@
 -- The rows of a table of verdicts. (this project's own)
 use Rattle.std.specs.Prelude.{ℕ, ◌+◌, ◌-◌, ◌^◌, false, List, [], ◌∷◌, Result, Ok, Err, codes, map, sum_by}
 use Rattle.desk_text.specs.Address.{number_of}
-use Rattle.desk_policy.specs.Verdict.{Grant, verdict_result}
+use Rattle.desk_policy.specs.Verdict.{Grant}
 use Rattle.desk_policy.specs.declared.verdict.Denial.{Denial}
 use Rattle.desk_policy.specs.declared.verdict.Denial.TheVariants.{NoFileSystem, NoLine, NotListed}
-use Rattle.desk_policy.specs.declared.verdict.Verdict.{Verdict}
-use Rattle.desk_who.specs.declared.runs.Run.{Run as KeptRun}
+use Rattle.desk_who.specs.Runs.{Run}
 use Rattle.page_data.specs.Class.{class_of}
+use Rattle.page_data.specs.Rows as kept
 use Rattle.page_data.specs.declared.class.Class.TheVariants.{Denied}
 use Rattle.page_data.specs.declared.rows.TableRow.{TableRow}
 use Rattle.page_html.specs.Items.{Item, LineLink, Nothing, Own, PartOf, Ranges, Terms, Words}
@@ -20,12 +20,15 @@ pub record RowValue : Type 0 where
   pub spans : List Span
 
 -- a range of addresses without its verdict
-abbrev pub span_of : KeptRun Verdict → Span
-span_of range = record { first = range.first; last = range.last }
+abbrev pub span_of : Run (Result Grant Denial) → Span
+span_of range = record { first = record { number = range.first }; last = record { number = range.last } }
 
--- a row by value
+-- what is told of a row, and a row by value
+abbrev pub told_row : kept.RowValue → RowValue
+told_row row = record { verdict = row.verdict; spans = map span_of row.ranges }
+
 abbrev pub row_value : TableRow → RowValue
-row_value row = record { verdict = verdict_result row.verdict; spans = map span_of row.ranges }
+row_value row = told_row (kept.row_value row)
 
 -- how many addresses a range has, and some of them together, of which no two share an address
 abbrev pub span_size : Span → ℕ

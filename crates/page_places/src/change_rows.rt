@@ -161,14 +161,18 @@ fn push_change_row(alloc: Global, row: &ChangeRow<'_>, page: &mut String) -> Res
     };
     let before = verdict_parts(&row.before);
     let after = verdict_parts(&row.after);
-    let cells: [&[Part<'_>]; 5] = [
-        &[place_part(row.place)],
-        &[Part::Range(span)],
-        &[Part::Number(span_size(span))],
-        &before,
-        &after,
-    ];
-    push_row(alloc, &CHANGES, &cells, page)
+    push_row(
+        alloc,
+        &CHANGES,
+        &[
+            &[place_part(row.place)],
+            &[Part::Range(span)],
+            &[Part::Number(span_size(span))],
+            &before,
+            &after,
+        ],
+        page,
+    )
 }
 
 /// Returns a verdict in words.

@@ -3,6 +3,7 @@
 ghost use Rattle.std.specs.Prelude.{◌≡◌, ◌≤◌, ◌^◌, ◌++◌, IfOk, OnOk, map};
 ghost use Rattle.std.specs.String.{string_bytes};
 ghost use Rattle.desk_policy.specs.Verdict.{verdict_result};
+ghost use Rattle.desk_who.specs.Who.{range_value};
 ghost use Rattle.page_html.specs.Parts.{item_of};
 ghost use Rattle.page_html.specs.Tables.{row_html};
 ghost use Rattle.page_places.specs.Rows as spec;
@@ -37,33 +38,37 @@ pub(crate) fn push_verdict_row(
     row: &TableRow<'_>,
     page: &mut String,
 ) -> Result<(), AllocError>
-    requires { spec.size_of (map spec.span_of row.now.ranges) ≤ 2 ^ 32 }
+    requires { spec.size_of (spec.row_value row.now).spans ≤ 2 ^ 32 }
     ensures { OnOk result (string_bytes page.new ≡ string_bytes page.old ++ row_html spec.verdict_frame (spec.cells fs.0 (spec.row_value row.now))) }
 {
     let spans = spans_of(alloc, row.ranges.as_slice())?;
-    push_row_of(alloc, fs, &row.verdict, spans.as_slice(), page)
+    push_row_of(alloc, fs, row, spans.as_slice(), page)
 }
 
-/// Adds the row of a verdict, with the ranges of addresses that have it.
+/// Adds the row of a verdict, given the ranges of addresses that have it.
 fn push_row_of<'a>(
     alloc: Global,
     fs: FsId,
-    verdict: &Verdict<'a>,
+    row: &'a TableRow<'a>,
     spans: &'a [Span],
     page: &mut String,
 ) -> Result<(), AllocError>
-    requires { spec.size_of spans.now ≤ 2 ^ 32 }
-    ensures { OnOk result (string_bytes page.new
-        ≡ string_bytes page.old ++ row_html spec.verdict_frame (spec.cells fs.0 (record { verdict = verdict_result verdict.now; spans = spans.now }))) }
+    requires spans { spans.now ≡ (spec.row_value row.now).spans }
+    requires size { spec.size_of spans.now ≤ 2 ^ 32 }
+    ensures { OnOk result (string_bytes page.new ≡ string_bytes page.old ++ row_html spec.verdict_frame (spec.cells fs.0 (spec.row_value row.now))) }
 {
-    let reason = reason_of(fs, verdict);
-    let cells: [&[Part<'_>]; 4] = [
-        &[badge_part(Class::of(verdict))],
-        &[clients_of(verdict, spans)],
-        &[Part::PartOf(size_of(spans), ALL)],
-        &reason,
-    ];
-    push_row(alloc, &VERDICTS, &cells, page)
+    let reason = reason_of(fs, &row.verdict);
+    push_row(
+        alloc,
+        &VERDICTS,
+        &[
+            &[badge_part(Class::of(&row.verdict))],
+            &[clients_of(&row.verdict, spans)],
+            &[Part::PartOf(size_of(spans), ALL)],
+            &reason,
+        ],
+        page,
+    )
 }
 
 /// Adds the row of all whom no other row tells of, of whom there are so many.
@@ -75,18 +80,22 @@ pub(crate) fn push_others_row(
     ensures { OnOk result (string_bytes page.new ≡ string_bytes page.old ++ row_html spec.verdict_frame (spec.others_cells count)) }
 {
     let reason = "no line matches them, or those that match them best list none of these";
-    let cells: [&[Part<'_>]; 4] = [
-        &[badge_part(Class::Denied)],
-        &[Part::Words("everybody else")],
-        &[Part::PartOf(count, ALL)],
-        &[Part::Words(reason)],
-    ];
-    push_row(alloc, &VERDICTS, &cells, page)
+    push_row(
+        alloc,
+        &VERDICTS,
+        &[
+            &[badge_part(Class::Denied)],
+            &[Part::Words("everybody else")],
+            &[Part::PartOf(count, ALL)],
+            &[Part::Words(reason)],
+        ],
+        page,
+    )
 }
 
 /// Gathers ranges of addresses without their verdicts.
 fn spans_of(alloc: Global, ranges: &[Range<'_>]) -> Result<Vec<Span>, AllocError>
-    ensures { IfOk result (λ spans. spans.items ≡ map spec.span_of ranges.now) }
+    ensures { IfOk result (λ spans. spans.items ≡ map spec.span_of (map range_value ranges.now)) }
 {
     let mut spans = Vec::with_capacity(alloc, ranges.len())?;
     for range in ranges {

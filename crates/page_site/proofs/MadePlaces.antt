@@ -1,55 +1,33 @@
 -- What is told of changes, and of groups of directories, is made of blocks.
-use Rattle.std.proofs.Common.{ℕ, ◌==◌, ◌&&◌, List, [], ◌∷◌, Bool, Option, Some, None, Result, Ok, Err, codes, drop, length, map, not, refl, take}
+use Rattle.std.proofs.Common.{ℕ, ◌==◌, ◌&&◌, List, [], ◌∷◌, Bool, Option, Some, None, codes, drop, length, map, not, refl}
 use Rattle.std.specs.Prelude.{nat_le, nat_lt}
 use Rattle.std.specs.String.{string_bytes}
-use Rattle.desk_impact.specs.Places.{Directory, Others, Place, place_of}
-use Rattle.desk_policy.specs.Verdict.{Grant, verdict_result}
-use Rattle.desk_policy.specs.declared.verdict.Denial.{Denial}
-use Rattle.desk_policy.specs.declared.verdict.Denial.TheVariants.{NoFileSystem, NoLine, NotListed}
-use Rattle.page_data.specs.Class.{class_of}
 use Rattle.page_data.specs.Groups.{group_value}
-use Rattle.page_html.specs.Items.{AndMore, Number, Own, Plural, Words}
-use Rattle.page_html.specs.Titles.{Further, Named, Said, Title}
+use Rattle.page_html.specs.Items.{Number, Own, Plural, Words}
+use Rattle.page_html.specs.Titles.{Said}
 use Rattle.page_html.specs.declared.blocks.Element.TheVariants as element
 use Rattle.page_html.specs.declared.blocks.Tag.TheVariants.{FoldEnd, PlaceStart, SectionEnd, TableEnd}
-use Rattle.page_html.specs.declared.ranges.Span.{Span}
-use Rattle.page_findings.specs.Joining.{comma}
 use Rattle.page_places.specs.ChangeRows as changes
+use Rattle.page_places.specs.Changes.{row_value}
 use Rattle.page_places.specs.Groups.{group_by, group_text, groups_text, nobody, who_block}
 use Rattle.page_places.specs.Lists as lists
 use Rattle.page_places.specs.Names as names
-use Rattle.page_places.specs.Names.{MembersValue, caption, members_in, more_directories, place_item, shown}
-use Rattle.page_places.specs.Openings.{opening_items, opening_list, openings_text, told_items}
+use Rattle.page_places.specs.Names.{MembersValue, caption, members_in, more_directories, shown}
+use Rattle.page_places.specs.Openings.{openings_text, told_items}
 use Rattle.page_places.specs.Rows as rows
-use Rattle.page_places.specs.Rows.{RowValue, others_cells, verdict_frame}
+use Rattle.page_places.specs.Rows.{others_cells, verdict_frame}
 use Rattle.page_places.specs.Tables.{TableValue, folded_table, granting, others_text, row_count, table, table_block, table_summary, told_value}
 use Rattle.page_places.specs.declared.change_rows.ChangeRow.{ChangeRow}
 use Rattle.page_places.specs.declared.groups.GroupPart.{GroupPart}
 use Rattle.page_places.specs.declared.openings.PlaceOpening.{PlaceOpening}
 use Rattle.page_site.specs.MadeOfBlocks.{IsMadeOfBlocks}
 use Rattle.page_site.proofs.Made.{append_made, element_made, if_made, nothing_made, row_made, rows_made, start_made, table_made, tag_made}
-use Rattle.page_html.proofs.Plain.{ArePlain, ArePlainCells, IsPlain, cells_cons, part, parts, plain_append, plain_cons, plain_if, plain_map, some_cells}
-use Rattle.page_findings.proofs.Plain.{badge_plain, comma_plain, plain_joined}
-
-place_plain : (place : Place) → IsPlain (place_item place)
-place_plain (Directory path) = record { is = refl }
-place_plain (Others mount) = record { is = refl }
+use Rattle.page_places.proofs.Plain.{change_plain, row_plain, shown_plain, told_plain, unlisted_plain}
+use Rattle.page_html.proofs.Plain.{plain_map}
 
 -- ---- changes
-words_plain : (verdict : Result Grant Denial) → ArePlain (changes.words_behind verdict)
-words_plain (Ok grant) = record { are = refl }
-words_plain (Err denial) = record { are = refl }
-
-verdict_plain : (verdict : Result Grant Denial) → ArePlain (changes.verdict_items verdict)
-verdict_plain verdict = plain_cons (badge_plain (class_of verdict)) (words_plain verdict)
-
-change_plain : (row : ChangeRow) → ArePlainCells (changes.change_cells row)
-change_plain row =
-    let verdicts = cells_cons (verdict_plain (verdict_result row.before)) (cells_cons (verdict_plain (verdict_result row.after)) (some_cells [] refl)) in
-    cells_cons (plain_cons (place_plain (place_of row.place)) (parts [] refl)) (record { are = verdicts.are })
-
 change_table_made : (rows : List ChangeRow) → IsMadeOfBlocks (changes.change_table rows)
-change_table_made rows = table_made changes.change_frame (Said (codes "What it would change") ∷ []) changes.change_cells change_plain rows
+change_table_made rows = table_made changes.change_frame (Said (codes "What it would change") ∷ []) changes.change_cells (λ row. change_plain (row_value row)) rows
 
 changes_folded_made : (rows : List ChangeRow) → IsMadeOfBlocks (changes.changes_folded rows)
 changes_folded_made rows =
@@ -69,25 +47,11 @@ changes_made rows silent =
     (if_made (silent == 0) nothing_made (element_made element.Paragraph (changes.silent_items silent) (record { are = refl })))
 
 -- ---- what the server grants
-opening_plain : (fs : ℕ) (one : PlaceOpening) → ArePlain (opening_items fs one)
-opening_plain fs one = plain_cons (place_plain (place_of one.place)) (record { are = refl })
-
-told_plain : (fs : ℕ) (openings : List PlaceOpening) → ArePlain (told_items fs openings)
-told_plain fs openings =
-    let more : ArePlain (Own (AndMore (length (drop 6 openings))) ∷ []) = record { are = refl } in
-    let some : ArePlain (opening_list fs (take 6 openings)) = plain_joined (opening_items fs) comma comma_plain (opening_plain fs) (take 6 openings) in
-    record { are = (plain_append some more).are }
-
 openings_made : (fs : ℕ) (openings : List PlaceOpening) → IsMadeOfBlocks (openings_text fs openings)
 openings_made fs openings =
     if_made (length openings == 0) nothing_made (element_made element.Paragraph (told_items fs openings) (told_plain fs openings))
 
 -- ---- the names of directories
-shown_plain : (title : Title (List ℕ)) → IsPlain (shown title)
-shown_plain (Said words) = record { is = refl }
-shown_plain (Named name) = record { is = refl }
-shown_plain (Further count) = record { is = refl }
-
 left_out_made : (paths : List (List (List ℕ))) → IsMadeOfBlocks (names.left_out paths)
 left_out_made [] = nothing_made
 left_out_made (first ∷ others) =
@@ -103,24 +67,6 @@ heading_made members =
     (left_out_made (drop 8 members.directories))
 
 -- ---- the table of who may mount them
-clients_plain : (spans : List Span) (verdict : Result Grant Denial) → IsPlain (rows.clients spans verdict)
-clients_plain spans (Ok grant) = record { is = refl }
-clients_plain spans (Err (NotListed fs line)) = record { is = refl }
-clients_plain spans (Err (NoLine fs)) = record { is = refl }
-clients_plain spans (Err NoFileSystem) = record { is = refl }
-
-reason_plain : (fs : ℕ) (verdict : Result Grant Denial) → ArePlain (rows.reason fs verdict)
-reason_plain fs (Ok grant) = record { are = refl }
-reason_plain fs (Err (NotListed named line)) = record { are = refl }
-reason_plain fs (Err (NoLine named)) = record { are = refl }
-reason_plain fs (Err NoFileSystem) = record { are = refl }
-
-row_plain : (fs : ℕ) (row : RowValue) → ArePlainCells (rows.cells fs row)
-row_plain fs row =
-    let last = cells_cons (reason_plain fs row.verdict) (some_cells [] refl) in
-    cells_cons (plain_cons (badge_plain (class_of row.verdict)) (parts [] refl))
-    (cells_cons (plain_cons (clients_plain row.spans row.verdict) (parts [] refl)) (record { are = last.are }))
-
 others_made : (others : Option ℕ) → IsMadeOfBlocks (others_text others)
 others_made None = nothing_made
 others_made (Some count) = row_made verdict_frame (others_cells count) (record { are = refl })
@@ -175,12 +121,6 @@ not_drawn_made count =
 pub groups_start_made : (count : ℕ) → IsMadeOfBlocks (lists.groups_start count)
 groups_start_made count =
     append_made (element_made element.PlacesHeading (Own (Words (codes "Who may mount which directory")) ∷ []) (record { are = refl })) (not_drawn_made count)
-
-directories_plain : (count : ℕ) → IsPlain (lists.directories count)
-directories_plain count = plain_if (count == 0) (part (Own (Words (codes "other directories"))) refl) (part (more_directories count) refl)
-
-unlisted_plain : (count : ℕ) (has_others : Bool) → ArePlain (lists.unlisted count has_others)
-unlisted_plain count has_others = let directories = plain_cons (directories_plain count) (parts [] refl) in record { are = directories.are }
 
 pub not_listed_made : (count : ℕ) (has_others : Bool) → IsMadeOfBlocks (lists.not_listed count has_others)
 not_listed_made count has_others =

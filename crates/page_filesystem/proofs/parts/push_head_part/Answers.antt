@@ -1,5 +1,4 @@
 use Rattle.std.proofs.Common.{[], ◌∷◌}
-use Rattle.std.specs.Option.{option_copied}
 use Rattle.std.specs.String.{string_bytes}
 use Rattle.std.proofs.lemmas.Result.{on_ok_weaker}
 use Rattle.page_html.proofs.Gaining.{five_pieces}
@@ -18,7 +17,7 @@ returns c =
     (five_pieces (string_bytes c.args.page.now) (string_bytes c.push_system_start.new.page) (string_bytes c.push_element.new.page)
     (string_bytes c.push_facts.new.page) (string_bytes c.push_findings.new.page) (string_bytes c.push_proposal.new.page)
     (system_start part.fs.0) (element_html Heading (Code part.name.now ∷ []))
-    (facts (option_copied part.head) part.custodians.now part.guarded part.counts) (findings_list part.findings.now)
+    (facts part) (findings_list part.findings.now)
     (proposal_part part part.proposal) c.in_ok-push_system_start.ensures c.in_ok-push_element.ensures c.in_ok-push_facts.ensures
     c.in_ok-push_findings.ensures)
     c.push_proposal.ensures

@@ -5,7 +5,7 @@ use Rattle.std.proofs.lemmas.List.{length_push}
 use Rattle.std.specs.Str.Iter.{lines_rest}
 use Rattle.std.specs.Str.Lines.{lines}
 use Rattle.std.specs.String.{string_bytes}
-use Rattle.page_filesystem.specs.Proposals.{proposed_row, proposed_rows}
+use Rattle.page_filesystem.specs.Proposals.{proposed_rows}
 use Rattle.page_filesystem.proofs.InForce.{proposed_more}
 use Rattle.page_filesystem.proofs.proposals.push_proposed_rows.Goals as goal
 
@@ -20,11 +20,9 @@ loop-line-preserved c =
     rw length_push (record {
       counted = ap (λ n. n + 1) c.loop-line.invariant.counted;
       added = λ given has.
-          let now = string_bytes c.loop-line.page in
-          let added = c.in_ok-push_proposed_row.ensures ∙ ap (λ b. now ++ proposed_row b (c.loop-line.number + 1) c.in-Some.line.now)
-          (c.contains.ensures ∙ has c.in-Some.line) in
-          proposed_more given (lines text) k c.loop-line.number c.in-Some.line.now (string_bytes c.args.page.now) now
-          (string_bytes c.push_proposed_row.new.page) turn.0 turn.1 c.loop-line.invariant.counted (c.loop-line.invariant.added given has) added;
+          proposed_more given (lines text) k c.loop-line.number c.in-Some.line.now (string_bytes c.args.page.now) (string_bytes c.loop-line.page)
+          (string_bytes c.push_proposed_row.new.page) turn.0 turn.1 c.loop-line.invariant.counted (c.loop-line.invariant.added given has)
+          (c.in_ok-push_proposed_row.ensures given has);
     })
 
 pub returns : goal.returns

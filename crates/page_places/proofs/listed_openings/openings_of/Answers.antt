@@ -1,4 +1,4 @@
-use Rattle.std.proofs.Common.{◌≡◌, ◌∙◌, rules}
+use Rattle.std.proofs.Common.{◌≡◌, rules}
 use Rattle.std.proofs.lemmas.Fn.{always_returns_same, dedup_same}
 use Rattle.page_places.specs.ListedOpenings.{order_of, same_denied}
 use Rattle.page_places.proofs.listed_openings.openings_of.Goals as goal
