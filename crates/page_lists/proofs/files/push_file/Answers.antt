@@ -9,6 +9,15 @@ use Rattle.page_lists.proofs.files.push_file.Goals as goal
 pub returns : goal.returns
 returns c =
     let told : map (λ cell. items_of cell.now) c.eight_cells.result ≡ cells (row_value c.args.row.now) =
-    c.eight_cells.ensures ∙ cc (c.name.ensures, c.revision_of.ensures, c.author_of.ensures, c.approver_of.ensures, c.profile_of.ensures, c.size_of.ensures, c.as_str.ensures.value,
-    c.if_revised.ensures, c.remark_of-remark.ensures) in
+    c.eight_cells.ensures ∙ cc (
+      c.name.ensures,
+      c.revision_of.ensures,
+      c.author_of.ensures,
+      c.approver_of.ensures,
+      c.profile_of.ensures,
+      c.size_of.ensures,
+      c.as_str.ensures.value,
+      c.if_revised.ensures,
+      c.remark_of-remark.ensures,
+    ) in
     on_ok_weaker c.push_row.result (λ added. added ∙ ap (λ cells. string_bytes c.args.page.now ++ row_html frame cells) told) c.push_row.ensures
