@@ -12,6 +12,7 @@ use Rattle.page_lists.specs.Hosts as hosts
 use Rattle.page_lists.specs.Mentions.{all_of, later, mention, some_of, some_or}
 use Rattle.page_lists.specs.NameCells.{span_of, stands_for, written_by}
 use Rattle.page_lists.specs.Netgroups as netgroups
+use Rattle.page_lists.specs.Tables.{cells_of}
 use Rattle.page_lists.specs.Uses.{MentionValue, OfGroup, OfHost, OfLine, OfSystem, NameValue}
 use Rattle.page_lists.specs.Warnings as warnings
 use Rattle.page_lists.specs.declared.hosts.HostKind.{HostKind}
@@ -81,7 +82,7 @@ remark_plain None false = record { are = refl }
 remark_plain (Some name) true = record { are = refl }
 remark_plain (Some name) false = record { are = refl }
 
-file_plain_with : (newest : Option Head) (row : files.RowValue) → ArePlainCells (files.cells_with newest row)
+file_plain_with : (newest : Option Head) (row : files.RowValue) → ArePlainCells (cells_of (files.told newest) row)
 file_plain_with None row = record { are = (cells_cons (remark_plain row.proposer row.is_unlisted) (some_cells [] refl)).are }
 file_plain_with (Some head) row =
     let remark = cells_cons (remark_plain row.proposer row.is_unlisted) (some_cells [] refl) in

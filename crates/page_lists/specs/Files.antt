@@ -16,18 +16,8 @@ use Rattle.page_html.specs.Tables.{Count, Frame, Name, Plain, rows_html, table_s
 use Rattle.page_html.specs.Titles.{Said}
 use Rattle.page_html.specs.declared.blocks.Tag.TheVariants.{TableEnd}
 use Rattle.page_lists.specs.Digests.{text_digest}
-use Rattle.page_lists.specs.Tables.{long_end, long_start, number}
+use Rattle.page_lists.specs.Tables.{Told, cells_of, columns_of, long_end, long_start, number}
 use Rattle.page_lists.specs.declared.files.FileRow.{FileRow}
-
--- the table
-abbrev pub frame : Frame
-frame = record {
-  class = codes "h";
-  is_titled = true;
-  columns =
-      Name (codes "File") ∷ Count (codes "Revision") ∷ Plain (codes "Author") ∷ Plain (codes "Approver") ∷ Plain (codes "Profile")
-      ∷ Count (codes "Bytes") ∷ Plain (codes "SHA-256 of the text") ∷ Plain (codes "Remark") ∷ [];
-}
 
 -- what stands for nothing
 abbrev pub dash : Item (List ℕ)
@@ -98,14 +88,24 @@ row_value row = record {
   is_unlisted = row.is_unlisted;
 }
 
--- the cells of a row: its name, what is told of its newest revision, if it has one, and what is remarkable
-abbrev pub cells_with : Option Revision → RowValue → List (List (Item (List ℕ)))
-cells_with newest row =
-    (Code row.file ∷ []) ∷ (revision newest ∷ []) ∷ (author newest ∷ []) ∷ (approver newest ∷ []) ∷ (profile newest ∷ [])
-    ∷ (size newest ∷ []) ∷ (if_revised newest (Digest row.digest) ∷ []) ∷ remark row.proposer row.is_unlisted ∷ []
+-- the table: its name, what is told of its newest revision, if it has one, and what is remarkable
+abbrev pub told : Option Revision → List (Told RowValue)
+told newest =
+    (Name (codes "File"), (λ row. Code row.file ∷ []))
+    ∷ (Count (codes "Revision"), (λ row. revision newest ∷ []))
+    ∷ (Plain (codes "Author"), (λ row. author newest ∷ []))
+    ∷ (Plain (codes "Approver"), (λ row. approver newest ∷ []))
+    ∷ (Plain (codes "Profile"), (λ row. profile newest ∷ []))
+    ∷ (Count (codes "Bytes"), (λ row. size newest ∷ []))
+    ∷ (Plain (codes "SHA-256 of the text"), (λ row. if_revised newest (Digest row.digest) ∷ []))
+    ∷ (Plain (codes "Remark"), (λ row. remark row.proposer row.is_unlisted))
+    ∷ []
+
+abbrev pub frame : Frame
+frame = record { class = codes "h"; is_titled = true; columns = columns_of (told None) }
 
 abbrev pub cells : RowValue → List (List (Item (List ℕ)))
-cells row = cells_with row.head row
+cells row = cells_of (told row.head) row
 
 -- the files, folded if there are more than 40
 abbrev pub files : List FileRow → List ℕ

@@ -16,20 +16,11 @@ use Rattle.page_html.specs.Titles.{Said}
 use Rattle.page_html.specs.declared.blocks.Tag.TheVariants.{TableEnd}
 use Rattle.page_lists.specs.NameCells.{stands_for, written_by}
 use Rattle.page_lists.specs.NameIndex.{written_names}
-use Rattle.page_lists.specs.Tables.{long_end, long_start}
+use Rattle.page_lists.specs.Tables.{Told, cells_of, columns_of, long_end, long_start}
 use Rattle.page_lists.specs.Uses.{NameValue, facts_of, facts_value}
 use Rattle.page_lists.specs.declared.hosts.HostKind.{HostKind}
 use Rattle.page_lists.specs.declared.hosts.HostKind.TheVariants.{Ipv6, Known, Unknown}
 use Rattle.page_lists.specs.declared.hosts.HostRow.{HostRow}
-
--- the table of names of hosts
-abbrev pub host_frame : Frame
-host_frame = record {
-  class = codes "n";
-  is_titled = true;
-  columns =
-      Name (codes "Name") ∷ Plain (codes "It is") ∷ Count (codes "Addresses") ∷ Plain (codes "Stands for") ∷ Plain (codes "Written by") ∷ [];
-}
 
 -- what the name of a host is
 abbrev pub kind : HostKind → Item (List ℕ)
@@ -54,11 +45,21 @@ row_value row = record {
   facts = facts_value row.facts;
 }
 
--- the cells of a row: a name, what it is, for how many addresses, and which, it stands, and the lines that write it
+-- the table: a name, what it is, for how many addresses, and which, it stands, and the lines that write it
+abbrev pub told : List (Told RowValue)
+told =
+    (Name (codes "Name"), (λ row. Code row.name ∷ []))
+    ∷ (Plain (codes "It is"), (λ row. kind row.kind ∷ []))
+    ∷ (Count (codes "Addresses"), (λ row. Own (Number row.facts.addresses) ∷ []))
+    ∷ (Plain (codes "Stands for"), (λ row. stands_for row.facts.ranges ∷ []))
+    ∷ (Plain (codes "Written by"), (λ row. written_by row.facts.uses))
+    ∷ []
+
+abbrev pub host_frame : Frame
+host_frame = record { class = codes "n"; is_titled = true; columns = columns_of told }
+
 abbrev pub cells : RowValue → List (List (Item (List ℕ)))
-cells row =
-    (Code row.name ∷ []) ∷ (kind row.kind ∷ []) ∷ (Own (Number row.facts.addresses) ∷ []) ∷ (stands_for row.facts.ranges ∷ [])
-    ∷ written_by row.facts.uses ∷ []
+cells row = cells_of told row
 
 -- names of hosts, folded if there are more than 24
 abbrev pub some_hosts : List HostRow → List ℕ

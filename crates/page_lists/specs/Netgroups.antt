@@ -15,23 +15,13 @@ use Rattle.page_html.specs.declared.blocks.Element.TheVariants.{Paragraph}
 use Rattle.page_html.specs.declared.blocks.Tag.TheVariants.{TableEnd}
 use Rattle.page_lists.specs.Mentions.{some_or}
 use Rattle.page_lists.specs.NameCells.{stands_for, written_by}
-use Rattle.page_lists.specs.Tables.{long_end, long_start, number}
+use Rattle.page_lists.specs.Tables.{Told, cells_of, columns_of, long_end, long_start, number}
 use Rattle.page_lists.specs.Uses.{MentionValue, NameValue, OfGroup, OfHost, facts_of, facts_value, mention_value}
 use Rattle.page_lists.specs.declared.netgroups.NetgroupRow.{NetgroupRow}
 
 -- the members of a netgroup: 8 at the most, and how many more
 abbrev pub members_of : List MentionValue → List (Item (List ℕ))
 members_of members = some_or 8 (Own (Words (codes "-"))) members
-
--- the table of netgroups
-abbrev pub netgroup_frame : Frame
-netgroup_frame = record {
-  class = codes "n";
-  is_titled = true;
-  columns =
-      Name (codes "Name") ∷ Count (codes "Line") ∷ Plain (codes "Hosts and groups in it") ∷ Count (codes "Host names")
-      ∷ Count (codes "Addresses") ∷ Plain (codes "Stands for") ∷ Plain (codes "Written by") ∷ [];
-}
 
 -- a row of the table by value: a netgroup with its line, its members, how many names of hosts are in it, and what is told of its name
 pub record RowValue : Type 0 where
@@ -50,12 +40,24 @@ row_value row = record {
   facts = facts_value row.facts;
 }
 
--- the cells of a row: a name, its line and its members; how many names of hosts are in it, and for how many addresses, and which, it stands;
--- and the lines that write it
+-- the table: a name, its line and its members; how many names of hosts are in it, and for how many addresses, and which, it stands; and the
+-- lines that write it
+abbrev pub told : List (Told RowValue)
+told =
+    (Name (codes "Name"), (λ row. Code row.name ∷ []))
+    ∷ (Count (codes "Line"), (λ row. number row.line ∷ []))
+    ∷ (Plain (codes "Hosts and groups in it"), (λ row. members_of row.members))
+    ∷ (Count (codes "Host names"), (λ row. Own (Number row.hosts) ∷ []))
+    ∷ (Count (codes "Addresses"), (λ row. Own (Number row.facts.addresses) ∷ []))
+    ∷ (Plain (codes "Stands for"), (λ row. stands_for row.facts.ranges ∷ []))
+    ∷ (Plain (codes "Written by"), (λ row. written_by row.facts.uses))
+    ∷ []
+
+abbrev pub netgroup_frame : Frame
+netgroup_frame = record { class = codes "n"; is_titled = true; columns = columns_of told }
+
 abbrev pub cells : RowValue → List (List (Item (List ℕ)))
-cells row =
-    (Code row.name ∷ []) ∷ (number row.line ∷ []) ∷ members_of row.members ∷ (Own (Number row.hosts) ∷ [])
-    ∷ (Own (Number row.facts.addresses) ∷ []) ∷ (stands_for row.facts.ranges ∷ []) ∷ written_by row.facts.uses ∷ []
+cells row = cells_of told row
 
 -- netgroups, folded if there are more than 24
 abbrev pub some_netgroups : List NetgroupRow → List ℕ

@@ -14,16 +14,8 @@ use Rattle.page_html.specs.Tables.{Frame, Name, Plain, rows_html, table_start}
 use Rattle.page_html.specs.Titles.{Said}
 use Rattle.page_html.specs.declared.blocks.Element.TheVariants.{Paragraph}
 use Rattle.page_html.specs.declared.blocks.Tag.TheVariants.{TableEnd}
-use Rattle.page_lists.specs.Tables.{long_end, long_start}
+use Rattle.page_lists.specs.Tables.{Told, cells_of, columns_of, long_end, long_start}
 use Rattle.page_lists.specs.declared.warnings.WarningRow.{WarningRow}
-
--- the table
-abbrev pub frame : Frame
-frame = record {
-  class = [];
-  is_titled = true;
-  columns = Name (codes "File") ∷ Plain (codes "Line") ∷ Plain (codes "Word") ∷ Plain (codes "Name") ∷ Plain (codes "What it means") ∷ [];
-}
 
 -- the line, with a link if it is one of a file system
 abbrev pub line : Option FsId → ℕ → List (Item (List ℕ))
@@ -48,10 +40,21 @@ pub record RowValue : Type 0 where
 abbrev pub row_value : WarningRow → RowValue
 row_value row = record { file = row.file.now; fs = row.fs; line = row.line; word = row.word.now; kind = row.kind }
 
--- the cells of a row: the file, the line, the word, and what is odd about it
+-- the table: the file, the line, the word, and what is odd about it
+abbrev pub told : List (Told RowValue)
+told =
+    (Name (codes "File"), (λ row. Code row.file ∷ []))
+    ∷ (Plain (codes "Line"), (λ row. line row.fs row.line))
+    ∷ (Plain (codes "Word"), (λ row. Code row.word ∷ []))
+    ∷ (Plain (codes "Name"), (λ row. name row.kind ∷ []))
+    ∷ (Plain (codes "What it means"), (λ row. meaning row.kind ∷ []))
+    ∷ []
+
+abbrev pub frame : Frame
+frame = record { class = []; is_titled = true; columns = columns_of told }
+
 abbrev pub cells : RowValue → List (List (Item (List ℕ)))
-cells row =
-    (Code row.file ∷ []) ∷ line row.fs row.line ∷ (Code row.word ∷ []) ∷ (name row.kind ∷ []) ∷ (meaning row.kind ∷ []) ∷ []
+cells row = cells_of told row
 
 -- warnings, folded if there are more than 24
 abbrev pub some_warnings : List WarningRow → List ℕ
