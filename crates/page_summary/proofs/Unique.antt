@@ -1,5 +1,5 @@
 -- The summary of the page is told in one way: each part depends on values alone.
-use Rattle.std.proofs.Common.{◌≡◌, ℕ, ◌++◌, ◌∙◌, List, [], ◌∷◌, ap, codes, map, sym}
+use Rattle.std.proofs.Common.{◌≡◌, ℕ, ◌++◌, ◌∙◌, List, [], ◌∷◌, ap, codes, map, refl, sym}
 use Rattle.std.specs.Prelude.{All}
 use Rattle.desk_core.specs.Listing.{HeldFile}
 use Rattle.desk_core.specs.Standing.{Standing}
