@@ -18,7 +18,8 @@ use Rattle.page_data.specs.Laws.{IsSound}
 use Rattle.page_data.specs.Lines.{AreLineReasons, IsToldOf}
 use Rattle.page_data.specs.Reasons.{reasons_on}
 use Rattle.page_data.specs.Server.{AreServerReasons, IsRepeatedOf, IsWiderOf, server_reasons}
-use Rattle.page_data.specs.Unique.{Another, GrantsMore, ReasonValue, ReasonsAreUnique, ReasonsValue, WiderValue, reason_value, reasons_value, wider_value}
+use Rattle.page_data.specs.ReasonValues.{Another, GrantsMore, ReasonValue, ReasonsValue, WiderValue, reason_value, reasons_value, wider_value}
+use Rattle.page_data.specs.Unique.{ReasonsAreUnique}
 use Rattle.page_data.specs.declared.lines.LineReasons.{LineReasons}
 use Rattle.page_data.specs.declared.reasons.Reason.{Reason}
 use Rattle.page_data.specs.declared.reasons.Reason.TheVariants.{ServerGrantsMore, RepeatedClient}

@@ -18,6 +18,7 @@ pub mod PrivateGrants
 pub mod Systems
 pub mod PrivateSystems
 pub mod Reasons
+pub mod ReasonValues
 pub mod Server
 pub mod PrivateServer
 pub mod Lines

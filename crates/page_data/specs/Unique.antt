@@ -1,7 +1,6 @@
 -- What is found of a site is found in one way: each relation of this crate fixes what it says, and so do those that it is made of.
 -- (this project's own)
 use Rattle.std.specs.Prelude.{◌≡◌, ℕ, ◌≤◌, Bool, Contains, List, Option, Result, map}
-use Rattle.std.specs.Option.{option_copied}
 use Rattle.desk_text.specs.declared.address.Addr.{Addr}
 use Rattle.desk_policy.specs.Policy.{Content, rows_of}
 use Rattle.desk_policy.specs.Verdict.{Grant}
@@ -10,7 +9,6 @@ use Rattle.desk_policy.specs.declared.verdict.Denial.{Denial}
 use Rattle.desk_who.specs.Runs.{Run}
 use Rattle.desk_impact.specs.Places.{AreInOrder, Place}
 use Rattle.desk_impact.specs.Sections.{ArePlacesBelow, PlaceBreaches, PlaceFound}
-use Rattle.desk_server.specs.declared.wider_grant.WiderGrant.{WiderGrant}
 use Rattle.page_data.specs.Classes.{AreClassesFrom, AreClassesOn, IsMostOn}
 use Rattle.page_data.specs.Counts.{AreCounts, AreCountsFrom}
 use Rattle.page_data.specs.Grants.{AreGrants, GrantsTo, HoldsOf}
@@ -18,6 +16,7 @@ use Rattle.page_data.specs.Groups.{AreGroups, AreSectionGroups}
 use Rattle.page_data.specs.Laws.{IsSound}
 use Rattle.page_data.specs.Lines.{AreLineReasons, IsToldOf}
 use Rattle.page_data.specs.Opening.{AreOpenings}
+use Rattle.page_data.specs.ReasonValues.{reason_value, reasons_value}
 use Rattle.page_data.specs.Rows.{AreRowsOf, RowValue}
 use Rattle.page_data.specs.Sections.{AreSections}
 use Rattle.page_data.specs.Server.{AreServerReasons}
@@ -30,37 +29,7 @@ use Rattle.page_data.specs.declared.grants.LineGrants.{LineGrants}
 use Rattle.page_data.specs.declared.lines.LineReasons.{LineReasons}
 use Rattle.page_data.specs.declared.opening.Opening.{Opening}
 use Rattle.page_data.specs.declared.reasons.Reason.{Reason}
-use Rattle.page_data.specs.declared.reasons.Reason.TheVariants.{ServerGrantsMore}
 
--- ---- reasons by value
--- what the server grants more, with the path of the directory, wherever that is kept
-pub record WiderValue : Type 0 where
-  pub line : ℕ
-  pub address : Addr
-  pub other : ℕ
-  pub directory : Option (List (List ℕ))
-
-abbrev pub wider_value : WiderGrant → WiderValue
-wider_value found = record { line = found.line; address = found.address; other = found.other; directory = option_copied found.directory }
-
--- a reason by value: what the server grants more, or another reason, which lends nothing
-pub data ReasonValue : Type 0 where
-  GrantsMore : WiderValue → ReasonValue
-  Another : Reason → ReasonValue
-
-abbrev pub reason_value : Reason → ReasonValue
-reason_value (ServerGrantsMore found) = GrantsMore (wider_value found)
-reason_value reason = Another reason
-
--- a line with its reasons, by value
-pub record ReasonsValue : Type 0 where
-  pub line : ℕ
-  pub reasons : List ReasonValue
-
-abbrev pub reasons_value : LineReasons → ReasonsValue
-reasons_value one = record { line = one.line; reasons = map reason_value one.reasons }
-
--- ---- laws
 -- Places stand in one order, and what is found at them of a policy is found in one way: all verdicts, and where the server grants what
 -- is denied.
 pub record PlacesAreUnique : Type 0 where

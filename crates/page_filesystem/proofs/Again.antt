@@ -7,7 +7,7 @@ use Rattle.std.proofs.lemmas.List.Folds.{flat_map-map}
 use Rattle.desk_text.specs.Lines.{LogicalLine, logical_lines}
 use Rattle.desk_exports.specs.Laws.{takes_part}
 use Rattle.page_data.specs.Reasons.{is_first, level_of_all}
-use Rattle.page_data.specs.Unique.{reason_value}
+use Rattle.page_data.specs.ReasonValues.{reason_value}
 use Rattle.page_data.specs.declared.reasons.Level.TheVariants.{Check, LookFirst}
 use Rattle.page_data.specs.declared.reasons.Reason.{Reason}
 use Rattle.page_data.specs.declared.reasons.Reason.TheVariants.{ServerGrantsMore}

@@ -4,7 +4,7 @@ use Rattle.std.specs.Option.{option_copied}
 use Rattle.desk_exports.specs.declared.entry.Terms.{Terms}
 use Rattle.desk_policy.specs.declared.row.Row.{Row}
 use Rattle.desk_who.specs.Runs.{Run}
-use Rattle.page_data.specs.Unique.{ReasonValue, reason_value}
+use Rattle.page_data.specs.ReasonValues.{ReasonValue, reason_value}
 use Rattle.page_data.specs.Values.{AreRunsOfSome}
 use Rattle.page_data.specs.declared.class.Class.{Class}
 use Rattle.page_findings.specs.Lines.{LineValue}

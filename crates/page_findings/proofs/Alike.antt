@@ -4,7 +4,7 @@ use Rattle.std.specs.Prelude.{count_by, filter}
 use Rattle.std.specs.List.{dedup, flat_map, list_any}
 use Rattle.std.proofs.lemmas.List.{length-map}
 use Rattle.page_data.specs.Reasons.{is_first, is_first_level, level_of, level_of_all}
-use Rattle.page_data.specs.Unique.{ReasonValue, ReasonsValue, reason_value, reasons_value}
+use Rattle.page_data.specs.ReasonValues.{ReasonValue, ReasonsValue, reason_value, reasons_value}
 use Rattle.page_data.specs.declared.lines.LineReasons.{LineReasons}
 use Rattle.page_data.specs.declared.reasons.Level.{Level}
 use Rattle.page_data.specs.declared.reasons.Level.TheVariants.{LookFirst, Check}

@@ -17,6 +17,7 @@ pub mod Ordered
 pub mod Gathering
 pub mod OneSorting
 pub mod Alike
+pub mod ByValue
 pub mod Unique
 pub mod FewFlavours
 pub mod Plain

@@ -1,9 +1,8 @@
 -- The parts that tell of classes, and why lines stand out, have no picture.
 use Rattle.std.proofs.Common.{ℕ, List, [], ◌∷◌, Option, Some, None, codes, drop, length, refl, take}
-use Rattle.std.specs.Option.{option_copied}
 use Rattle.desk_exports.specs.declared.entry.Flavour.{Flavour}
 use Rattle.desk_exports.specs.declared.entry.Terms.{Terms}
-use Rattle.desk_server.specs.declared.wider_grant.WiderGrant.{WiderGrant}
+use Rattle.page_data.specs.ReasonValues.{Another, GrantsMore, ReasonValue, WiderValue, wider_value}
 use Rattle.page_data.specs.declared.class.Class.{Class}
 use Rattle.page_data.specs.declared.class.Class.TheVariants.{Denied, ReadOnly, ReadWrite, RootKept}
 use Rattle.page_data.specs.declared.counts.Counts.{Counts}
@@ -12,11 +11,10 @@ use Rattle.page_data.specs.declared.reasons.Level.TheVariants.{Check, LookFirst}
 use Rattle.page_data.specs.declared.reasons.Reason.{Reason}
 use Rattle.page_data.specs.declared.reasons.Reason.TheVariants.{NeverDecides, ForEverybodyReadOnly, ForEverybodyReadWrite, ServerGrantsMore}
 use Rattle.page_findings.specs.Badges.{badge_item, class_items, classes_items, level_item, measured_items, present}
-use Rattle.page_findings.specs.FindingWords.{colon, decide_words, deciding, finding_items, flavour_item, flavour_items, for_everybody, line_item, listed, reason_items, some_lines, wider}
+use Rattle.page_findings.specs.FindingWords.{FindingValue, colon, decide_words, deciding, finding_items, flavour_item, flavour_items, for_everybody, line_item, listed, reason_items, some_lines, value_items, wider}
 use Rattle.page_findings.specs.Joining.{comma, joined}
 use Rattle.page_findings.specs.declared.badges.Measure.{Measure}
 use Rattle.page_findings.specs.declared.badges.Measure.TheVariants.{Count, Share}
-use Rattle.page_findings.specs.declared.finding_words.Finding.{Finding}
 use Rattle.page_html.specs.Items.{AndMore, Item, Own, Words}
 use Rattle.page_html.proofs.Plain.{ArePlain, IsPlain, plain_append, plain_cons, plain_each}
 
@@ -69,15 +67,19 @@ listed_plain : (directory : Option (List (List ℕ))) → ArePlain (listed direc
 listed_plain (Some directory) = record { are = refl }
 listed_plain None = record { are = refl }
 
-wider_plain : (fs : ℕ) (found : WiderGrant) → ArePlain (wider fs found)
-wider_plain fs found = record { are = (listed_plain (option_copied found.directory)).are }
+wider_plain : (fs : ℕ) (found : WiderValue) → ArePlain (wider fs found)
+wider_plain fs found = record { are = (listed_plain found.directory).are }
 
-reason_plain : (finding : Finding) (reason : Reason) → ArePlain (reason_items finding reason)
-reason_plain finding NeverDecides = deciding_plain finding.fs.0 finding.deciding.now
-reason_plain finding ForEverybodyReadOnly = everybody_plain (codes "read-only") finding.terms.now
-reason_plain finding ForEverybodyReadWrite = everybody_plain (codes "read-write") finding.terms.now
-reason_plain finding (ServerGrantsMore found) = wider_plain finding.fs.0 found
+reason_plain : (finding : FindingValue) (reason : Reason) → ArePlain (reason_items finding reason)
+reason_plain finding NeverDecides = deciding_plain finding.fs finding.deciding
+reason_plain finding ForEverybodyReadOnly = everybody_plain (codes "read-only") finding.terms
+reason_plain finding ForEverybodyReadWrite = everybody_plain (codes "read-write") finding.terms
+reason_plain finding (ServerGrantsMore found) = wider_plain finding.fs (wider_value found)
 reason_plain finding reason = record { are = refl }
 
-pub finding_plain : (finding : Finding) → ArePlain (finding_items finding)
-finding_plain finding = plain_joined (reason_items finding) comma comma_plain (reason_plain finding) finding.reasons.now
+value_plain : (finding : FindingValue) (reason : ReasonValue) → ArePlain (value_items finding reason)
+value_plain finding (GrantsMore found) = wider_plain finding.fs found
+value_plain finding (Another reason) = reason_plain finding reason
+
+pub finding_plain : (finding : FindingValue) → ArePlain (finding_items finding)
+finding_plain finding = plain_joined (value_items finding) comma comma_plain (value_plain finding) finding.reasons

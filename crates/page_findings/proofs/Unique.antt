@@ -14,7 +14,8 @@ use Rattle.desk_policy.specs.declared.row.Row.{Row}
 use Rattle.page_data.specs.Grants.{GrantsTo, HoldsOf}
 use Rattle.page_data.specs.Laws.{IsSound, IsSoundSite}
 use Rattle.page_data.specs.Lines.{IsToldOf}
-use Rattle.page_data.specs.Unique.{ReasonsValue, WhatIsFoundIsUnique, reason_value}
+use Rattle.page_data.specs.ReasonValues.{ReasonsValue, reason_value}
+use Rattle.page_data.specs.Unique.{WhatIsFoundIsUnique}
 use Rattle.page_data.specs.declared.lines.LineReasons.{LineReasons}
 use Rattle.page_data.specs.declared.reasons.Level.TheVariants.{LookFirst, Check}
 use Rattle.page_data.proofs.Selecting.{one_by_number}

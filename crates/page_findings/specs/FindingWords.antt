@@ -1,6 +1,5 @@
 -- Why a line stands out, as parts of the page. (this project's own)
-use Rattle.std.specs.Prelude.{ℕ, ◌==◌, Bool, List, [], ◌∷◌, ◌++◌, Option, None, Some, codes, drop, length, take, if◌then◌else◌}
-use Rattle.std.specs.Option.{option_copied}
+use Rattle.std.specs.Prelude.{ℕ, ◌==◌, Bool, List, [], ◌∷◌, ◌++◌, Option, None, Some, codes, drop, length, map, take, if◌then◌else◌}
 use Rattle.desk_text.specs.Path.{path_text}
 use Rattle.desk_text.specs.declared.address.Addr.{Addr}
 use Rattle.desk_exports.specs.Flavours.{flavour_word}
@@ -8,14 +7,38 @@ use Rattle.desk_exports.specs.declared.entry.Flavour.{Flavour}
 use Rattle.desk_exports.specs.declared.entry.Mapping.{Mapping}
 use Rattle.desk_exports.specs.declared.entry.Mapping.TheVariants.{All, Root}
 use Rattle.desk_exports.specs.declared.entry.Terms.{Terms}
+use Rattle.page_data.specs.ReasonValues.{Another, GrantsMore, ReasonValue, WiderValue, reason_value, wider_value}
+use Rattle.page_data.specs.Reasons.{level_of_all}
+use Rattle.page_data.specs.declared.reasons.Level.{Level}
 use Rattle.page_data.specs.declared.reasons.Reason.{Reason}
 use Rattle.page_data.specs.declared.reasons.Reason.TheVariants as reasons
 use Rattle.desk_server.specs.declared.repeated_client.RepeatedClient.{RepeatedClient as Repeated}
-use Rattle.desk_server.specs.declared.wider_grant.WiderGrant.{WiderGrant}
 use Rattle.page_html.specs.declared.ranges.Span.{Span}
 use Rattle.page_html.specs.Items.{AndMore, Code, Item, LineLink, Own, Range, Word, Words}
 use Rattle.page_findings.specs.Joining.{comma, joined}
 use Rattle.page_findings.specs.declared.finding_words.Finding.{Finding}
+
+-- a line that stands out by value: its file system, its number, its level, its reasons, and what their words tell: its terms, whether it
+-- writes a network that does not have every address, and the lines that decide in its place
+pub record FindingValue : Type 0 where
+  pub fs : ℕ
+  pub line : ℕ
+  pub level : Level
+  pub reasons : List ReasonValue
+  pub terms : Terms
+  pub is_for_network : Bool
+  pub deciding : List ℕ
+
+abbrev pub finding_value : Finding → FindingValue
+finding_value finding = record {
+  fs = finding.fs.0;
+  line = finding.line;
+  level = level_of_all finding.reasons.now;
+  reasons = map reason_value finding.reasons.now;
+  terms = finding.terms.now;
+  is_for_network = finding.is_for_network;
+  deciding = finding.deciding.now;
+}
 
 -- what stands between two flavours
 abbrev pub colon : Item (List ℕ)
@@ -72,10 +95,10 @@ abbrev pub only : Addr → Span
 only address = record { first = address; last = address }
 
 -- to whom the server grants more, by which line, and what that lists
-abbrev pub wider : ℕ → WiderGrant → List (Item (List ℕ))
+abbrev pub wider : ℕ → WiderValue → List (Item (List ℕ))
 wider fs found =
     Own (Words (codes "mountd(8) grants more: to ")) ∷ Own (Range (only found.address)) ∷ Own (Words (codes " ")) ∷ Own (LineLink fs found.other)
-    ∷ listed (option_copied found.directory)
+    ∷ listed found.directory
 
 -- that the server may leave the line out, since an earlier one has a client of it
 abbrev pub repeated : ℕ → Repeated → List (Item (List ℕ))
@@ -83,21 +106,25 @@ repeated fs found =
     Own (Words (codes "mountd(8) may leave this line out: ")) ∷ Own (LineLink fs found.other) ∷ Own (Words (codes " has "))
     ∷ Own (Range (only found.address)) ∷ []
 
--- a reason why a line stands out
-abbrev pub reason_items : Finding → Reason → List (Item (List ℕ))
+-- a reason why a line stands out, and the same by value
+abbrev pub reason_items : FindingValue → Reason → List (Item (List ℕ))
 reason_items finding reasons.NoClient = Own (Words (codes "matches nobody")) ∷ []
-reason_items finding reasons.NeverDecides = deciding finding.fs.0 finding.deciding.now
-reason_items finding reasons.ForEverybodyReadOnly = for_everybody (codes "read-only") finding.terms.now
-reason_items finding reasons.ForEverybodyReadWrite = for_everybody (codes "read-write") finding.terms.now
+reason_items finding reasons.NeverDecides = deciding finding.fs finding.deciding
+reason_items finding reasons.ForEverybodyReadOnly = for_everybody (codes "read-only") finding.terms
+reason_items finding reasons.ForEverybodyReadWrite = for_everybody (codes "read-write") finding.terms
 reason_items finding reasons.Wide = Own (Words (codes "wide: over 65,536 addresses")) ∷ []
-reason_items finding reasons.RootKeptForNetworks = root_kept finding.terms.now finding.is_for_network
-reason_items finding reasons.RootKeptForNames = root_kept finding.terms.now finding.is_for_network
-reason_items finding (reasons.ServerGrantsMore found) = wider finding.fs.0 found
-reason_items finding (reasons.RepeatedClient found) = repeated finding.fs.0 found
+reason_items finding reasons.RootKeptForNetworks = root_kept finding.terms finding.is_for_network
+reason_items finding reasons.RootKeptForNames = root_kept finding.terms finding.is_for_network
+reason_items finding (reasons.ServerGrantsMore found) = wider finding.fs (wider_value found)
+reason_items finding (reasons.RepeatedClient found) = repeated finding.fs found
+
+abbrev pub value_items : FindingValue → ReasonValue → List (Item (List ℕ))
+value_items finding (GrantsMore found) = wider finding.fs found
+value_items finding (Another reason) = reason_items finding reason
 
 -- reasons with commas between them, and all reasons why a line stands out
-abbrev pub reasons_items : Finding → List Reason → List (Item (List ℕ))
+abbrev pub reasons_items : FindingValue → List Reason → List (Item (List ℕ))
 reasons_items finding reasons = joined (reason_items finding) comma reasons
 
-abbrev pub finding_items : Finding → List (Item (List ℕ))
-finding_items finding = reasons_items finding finding.reasons.now
+abbrev pub finding_items : FindingValue → List (Item (List ℕ))
+finding_items finding = joined (value_items finding) comma finding.reasons

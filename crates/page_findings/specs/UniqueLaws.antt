@@ -5,7 +5,7 @@ use Rattle.desk_policy.specs.Policy.{Content}
 use Rattle.desk_policy.specs.Site.{SiteTexts}
 use Rattle.desk_policy.specs.declared.row.Row.{Row}
 use Rattle.page_data.specs.Laws.{IsSound, IsSoundSite}
-use Rattle.page_data.specs.Unique.{ReasonValue, ReasonsValue, reason_value, reasons_value}
+use Rattle.page_data.specs.ReasonValues.{ReasonValue, ReasonsValue, reason_value, reasons_value}
 use Rattle.page_data.specs.declared.lines.LineReasons.{LineReasons}
 use Rattle.page_findings.specs.Deciding.{AreDecidedFor, DecidedFor}
 use Rattle.page_findings.specs.Figures.{HasDirectories}

@@ -3,6 +3,7 @@
 ghost use Rattle.std.specs.Prelude.{◌≡◌, ◌++◌, ◌∷◌, IfOk, OnOk, codes, map};
 ghost use Rattle.std.specs.List.{flat_map};
 ghost use Rattle.std.specs.Option.{option_copied};
+ghost use Rattle.page_data.specs.ReasonValues.{wider_value};
 ghost use Rattle.page_data.specs.Reasons.{level_of_all};
 ghost use Rattle.page_html.specs.Parts.{item_of};
 ghost use Rattle.page_findings.specs.FindingWords as spec;
@@ -45,7 +46,7 @@ impl Finding<'_> {
 
 /// Gathers why a line stands out.
 pub fn finding_parts<'a>(alloc: Global, finding: &Finding<'a>) -> Result<Vec<Part<'a>>, AllocError>
-    ensures { IfOk result (λ parts. map item_of parts.items ≡ spec.finding_items finding.now) }
+    ensures { IfOk result (λ parts. map item_of parts.items ≡ spec.finding_items (spec.finding_value finding.now)) }
 {
     let mut parts = Vec::new(alloc);
     push_reasons(finding, finding.reasons, &mut parts)?;
@@ -58,7 +59,7 @@ fn push_reasons<'a>(
     reasons: &[Reason<'a>],
     parts: &mut Vec<Part<'a>>,
 ) -> Result<(), AllocError>
-    ensures { OnOk result (map item_of parts.new.items ≡ map item_of parts.old.items ++ spec.reasons_items finding.now reasons.now) }
+    ensures { OnOk result (map item_of parts.new.items ≡ map item_of parts.old.items ++ spec.reasons_items (spec.finding_value finding.now) reasons.now) }
 {
     match reasons {
         [] => Ok(()),
@@ -76,7 +77,7 @@ fn push_later_reasons<'a>(
     parts: &mut Vec<Part<'a>>,
 ) -> Result<(), AllocError>
     ensures { OnOk result (map item_of parts.new.items
-        ≡ map item_of parts.old.items ++ flat_map (λ reason. comma ∷ spec.reason_items finding.now reason) reasons.now) }
+        ≡ map item_of parts.old.items ++ flat_map (λ reason. comma ∷ spec.reason_items (spec.finding_value finding.now) reason) reasons.now) }
 {
     for reason in reasons {
         push_all(&[Part::Words(", ")], parts)?;
@@ -91,7 +92,7 @@ fn push_reason<'a>(
     reason: Reason<'a>,
     parts: &mut Vec<Part<'a>>,
 ) -> Result<(), AllocError>
-    ensures { OnOk result (map item_of parts.new.items ≡ map item_of parts.old.items ++ spec.reason_items finding.now reason.entry) }
+    ensures { OnOk result (map item_of parts.new.items ≡ map item_of parts.old.items ++ spec.reason_items (spec.finding_value finding.now) reason.entry) }
 {
     match reason {
         Reason::NoClient => push_all(&[Part::Words("matches nobody")], parts),
@@ -243,7 +244,7 @@ fn push_wider<'a>(
     found: &WiderGrant<'a>,
     parts: &mut Vec<Part<'a>>,
 ) -> Result<(), AllocError>
-    ensures { OnOk result (map item_of parts.new.items ≡ map item_of parts.old.items ++ spec.wider fs.0 found.now) }
+    ensures { OnOk result (map item_of parts.new.items ≡ map item_of parts.old.items ++ spec.wider fs.0 (wider_value found.now)) }
 {
     let words = [
         Part::Words("mountd(8) grants more: to "),

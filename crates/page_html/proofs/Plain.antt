@@ -4,6 +4,7 @@ use Rattle.std.specs.Prelude.{if◌then◌else◌}
 use Rattle.std.specs.List.{flat_map}
 use Rattle.std.proofs.lemmas.Bool.{false≢true}
 use Rattle.page_html.specs.Items.{Drawn, Item, Own}
+use Rattle.page_html.specs.Pictures.{CellsHaveNoHtmlBut, HasNoHtmlBut, HaveNoHtmlBut}
 
 abbrev pub has_no_picture : Item (List ℕ) → Bool
 has_no_picture (Own (Drawn image)) = false
@@ -79,3 +80,21 @@ plain_map item_of plain (x ∷ xs) = plain_cons (plain x) (plain_map item_of pla
 
 pub cells_cons : {items : List (Item (List ℕ))} {cells : List (List (Item (List ℕ)))} → ArePlain items → ArePlainCells cells → ArePlainCells (items ∷ cells)
 cells_cons {items = items} {cells = cells} own its = record { are = both (have_no_picture items) (cells_have_no_picture cells) own.are its.are }
+
+-- ---- in parts that have no picture nothing stands as HTML
+module _ (IsImage : List ℕ → Type 0) where
+  pub item_alone : (item : Item (List ℕ)) → has_no_picture item ≡ true → HasNoHtmlBut IsImage item
+  item_alone (Own (Drawn image)) is = absurd (false≢true is)
+  item_alone item is = tt
+
+  pub items_alone : (items : List (Item (List ℕ))) → have_no_picture items ≡ true → HaveNoHtmlBut IsImage items
+  items_alone [] are = tt
+  items_alone (item ∷ items) are =
+      (item_alone item (first_of (has_no_picture item) (have_no_picture items) are), items_alone items (second_of (has_no_picture item) (have_no_picture items) are))
+
+  pub cells_alone : (cells : List (List (Item (List ℕ)))) → cells_have_no_picture cells ≡ true → CellsHaveNoHtmlBut IsImage cells
+  cells_alone [] are = tt
+  cells_alone (items ∷ cells) are = (
+    items_alone items (first_of (have_no_picture items) (cells_have_no_picture cells) are),
+    cells_alone cells (second_of (have_no_picture items) (cells_have_no_picture cells) are),
+  )

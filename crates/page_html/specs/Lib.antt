@@ -5,6 +5,7 @@ pub mod Images
 pub mod Items
 pub mod Laws
 pub mod Pages
+pub mod Pictures
 pub mod Parts
 pub mod PartPieces
 pub mod Tables

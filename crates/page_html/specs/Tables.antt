@@ -35,6 +35,16 @@ frame_of frame = record {
   columns = map column_of frame.columns.now;
 }
 
+-- a column, and what a row has in it; and of some columns the heads, and the cells of a row
+abbrev pub Told : Type 0 → Type 0
+Told Row = Column × (Row → List (Item (List ℕ)))
+
+abbrev pub columns_of : {Row : Type 0} → List (Told Row) → List Column
+columns_of told = map (λ one. one.0) told
+
+abbrev pub cells_of : {Row : Type 0} → List (Told Row) → Row → List (List (Item (List ℕ)))
+cells_of told row = map (λ one. one.1 row) told
+
 -- a cell of a column
 abbrev pub cell_start : Column → List ℕ
 cell_start (Name words) = codes "<th scope=\"row\">"

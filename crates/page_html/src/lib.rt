@@ -38,8 +38,8 @@ pub use parts::{Part, push_part, push_parts};
 pub use pieces::{push_code, push_code_list, push_line_link, push_system_link};
 pub use ranges::{Span, push_network, push_range, push_ranges};
 pub use tables::{
-    Column, Frame, eight_cells, five_cells, four_cells, push_cell, push_cells, push_line_row,
-    push_marked_row, push_row, push_short_row, push_table_start, seven_cells, six_cells,
+    Column, Frame, eight_cells, five_cells, four_cells, push_line_row, push_marked_row, push_row,
+    push_short_row, push_table_start, seven_cells, six_cells,
 };
 pub use terms::{push_flavours, push_terms};
 pub use text_laws::{no_text_is_markup, texts_are_told_apart};

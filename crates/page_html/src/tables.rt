@@ -219,7 +219,7 @@ fn push_line_row_start(
 }
 
 /// Adds the cells of a row, or some of them.
-pub fn push_cells(
+pub(crate) fn push_cells(
     alloc: Global,
     columns: &[Column],
     cells: &[&[Part<'_>]],
@@ -235,7 +235,7 @@ pub fn push_cells(
 }
 
 /// Adds a cell of a column.
-pub fn push_cell(
+fn push_cell(
     alloc: Global,
     column: Column,
     parts: &[Part<'_>],

@@ -6,13 +6,13 @@ use Rattle.desk_policy.specs.SiteFile.{is_of_seven}
 use Rattle.desk_tables.specs.declared.filesystems.FsId.{FsId}
 use Rattle.page_html.specs.Items.{AndMore, Digits, Item, Own, Ranges, Strong, Words, Zero}
 use Rattle.page_html.specs.Ranges.{Ends}
+use Rattle.page_html.specs.Tables.{cells_of}
 use Rattle.page_html.proofs.Plain.{ArePlain, ArePlainCells, IsPlain, cells_cons, either_plain, part, parts, plain_append, plain_cons, plain_each, plain_if, some_cells}
 use Rattle.page_lists.specs.Files as files
 use Rattle.page_lists.specs.Hosts as hosts
 use Rattle.page_lists.specs.Mentions.{all_of, later, mention, some_of, some_or}
 use Rattle.page_lists.specs.NameCells.{span_of, stands_for, written_by}
 use Rattle.page_lists.specs.Netgroups as netgroups
-use Rattle.page_lists.specs.Tables.{cells_of}
 use Rattle.page_lists.specs.Uses.{MentionValue, OfGroup, OfHost, OfLine, OfSystem, NameValue}
 use Rattle.page_lists.specs.Warnings as warnings
 use Rattle.page_lists.specs.declared.hosts.HostKind.{HostKind}

@@ -12,11 +12,11 @@ use Rattle.desk_policy.specs.SiteFile.{is_of_seven}
 use Rattle.desk_tables.specs.declared.filesystems.Mount.{Mount}
 use Rattle.page_html.specs.Blocks.{tag_html}
 use Rattle.page_html.specs.Items.{Digits, Item, Nothing, Number, Words, Own, Code, Digest}
-use Rattle.page_html.specs.Tables.{Count, Frame, Name, Plain, rows_html, table_start}
+use Rattle.page_html.specs.Tables.{Count, Frame, Name, Plain, Told, cells_of, columns_of, rows_html, table_start}
 use Rattle.page_html.specs.Titles.{Said}
 use Rattle.page_html.specs.declared.blocks.Tag.TheVariants.{TableEnd}
 use Rattle.page_lists.specs.Digests.{text_digest}
-use Rattle.page_lists.specs.Tables.{Told, cells_of, columns_of, long_end, long_start, number}
+use Rattle.page_lists.specs.Tables.{long_end, long_start, number}
 use Rattle.page_lists.specs.declared.files.FileRow.{FileRow}
 
 -- what stands for nothing

@@ -9,13 +9,13 @@ use Rattle.desk_policy.specs.Policy.{Content}
 use Rattle.desk_policy.specs.declared.parsing.SiteTables.{SiteTables}
 use Rattle.page_html.specs.Blocks.{element_html, tag_html}
 use Rattle.page_html.specs.Items.{Item, Number, Word, Words, Own, Code}
-use Rattle.page_html.specs.Tables.{Count, Frame, Name, Plain, rows_html, table_start}
+use Rattle.page_html.specs.Tables.{Count, Frame, Name, Plain, Told, cells_of, columns_of, rows_html, table_start}
 use Rattle.page_html.specs.Titles.{Said}
 use Rattle.page_html.specs.declared.blocks.Element.TheVariants.{Paragraph}
 use Rattle.page_html.specs.declared.blocks.Tag.TheVariants.{TableEnd}
 use Rattle.page_lists.specs.Mentions.{some_or}
 use Rattle.page_lists.specs.NameCells.{stands_for, written_by}
-use Rattle.page_lists.specs.Tables.{Told, cells_of, columns_of, long_end, long_start, number}
+use Rattle.page_lists.specs.Tables.{long_end, long_start, number}
 use Rattle.page_lists.specs.Uses.{MentionValue, NameValue, OfGroup, OfHost, facts_of, facts_value, mention_value}
 use Rattle.page_lists.specs.declared.netgroups.NetgroupRow.{NetgroupRow}
 

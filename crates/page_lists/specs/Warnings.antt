@@ -10,11 +10,11 @@ use Rattle.desk_tables.specs.declared.filesystems.FsId.{FsId}
 use Rattle.desk_tables.specs.declared.filesystems.Mount.{Mount}
 use Rattle.page_html.specs.Blocks.{element_html, tag_html}
 use Rattle.page_html.specs.Items.{Digits, Item, LineLink, Nothing, Words, Own, Code}
-use Rattle.page_html.specs.Tables.{Frame, Name, Plain, rows_html, table_start}
+use Rattle.page_html.specs.Tables.{Frame, Name, Plain, Told, cells_of, columns_of, rows_html, table_start}
 use Rattle.page_html.specs.Titles.{Said}
 use Rattle.page_html.specs.declared.blocks.Element.TheVariants.{Paragraph}
 use Rattle.page_html.specs.declared.blocks.Tag.TheVariants.{TableEnd}
-use Rattle.page_lists.specs.Tables.{Told, cells_of, columns_of, long_end, long_start}
+use Rattle.page_lists.specs.Tables.{long_end, long_start}
 use Rattle.page_lists.specs.declared.warnings.WarningRow.{WarningRow}
 
 -- the line, with a link if it is one of a file system

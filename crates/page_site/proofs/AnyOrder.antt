@@ -1,5 +1,5 @@
 -- The page goes by how files stand, in whatever order they are listed.
-use Rattle.std.proofs.Common.{◌≡◌, ℕ, ◌+◌, ◌∙◌, List, [], ◌∷◌, Option, Some, None, ap, length, map, refl, subst, sym}
+use Rattle.std.proofs.Common.{◌≡◌, ℕ, ◌+◌, ◌∙◌, Bool, List, [], ◌∷◌, Option, Some, None, ap, length, map, refl, subst, sym}
 use Rattle.std.specs.Prelude.{slice_get, slice_index_or}
 use Rattle.desk_text.specs.Path.{path_text}
 use Rattle.desk_tables.specs.declared.filesystems.Mount.{Mount}
@@ -20,7 +20,7 @@ use Rattle.page_maps.specs.NetworkTable.{GainsNetworks}
 use Rattle.page_maps.specs.Shapes.{shapes}
 use Rattle.page_summary.specs.Amounts.{revisions_of}
 use Rattle.page_summary.specs.Figures.{figures}
-use Rattle.page_summary.specs.Files.{file_of, has_proposal, lines_by}
+use Rattle.page_summary.specs.Files.{file_of, has_proposal, lines_by, newest_of}
 use Rattle.page_summary.specs.FindingRows.{AreFindingRows, FindingTable, findings_text, row_of, row_value}
 use Rattle.page_summary.specs.FlavoursRows.{AreFlavoursRows}
 use Rattle.page_summary.specs.FlavoursTable.{flavours_table}
@@ -30,7 +30,7 @@ use Rattle.page_summary.specs.Proposals.{ProposalValue, standing_proposals}
 use Rattle.page_summary.specs.Sections.{section_end, section_start}
 use Rattle.page_summary.specs.SiteFinding.{findings_among}
 use Rattle.page_summary.specs.State.{IsStateDigest}
-use Rattle.page_summary.specs.SystemRows.{AreOverviewRows, IsRowOf, OverviewRows, overview_text}
+use Rattle.page_summary.specs.SystemRows.{AreOverviewRows, IsRowOf, IsRowWith, OverviewRows, overview_text}
 use Rattle.page_summary.specs.declared.figures.KeyFigures.{KeyFigures}
 use Rattle.page_summary.specs.declared.header.Header.{Header}
 use Rattle.page_summary.specs.declared.overview.SystemRow.{SystemRow}
@@ -134,21 +134,11 @@ module _ (heads others : List Head) (proposals waits : List Proposal) (newest : 
   -- ---- the tables
   row_moved : (content : Content) (found : Found) (place : ℕ) (row : SystemRow) → IsRowOf (parts_of content others waits found) place row
       → IsRowOf (parts_of content heads proposals found) place row
-  row_moved content found place row is = record {
-    mount = is.mount;
-    listed = is.listed;
-    system = is.system;
-    found = is.found;
-    fs = is.fs;
-    name = is.name;
-    reach = is.reach;
-    custodians = is.custodians;
-    guarded = is.guarded;
-    head = is.head ∙ newest_moved (file_of is.mount);
-    waits = is.waits ∙ sym (has (file_of is.mount));
-    first = is.first;
-    check = is.check;
-  }
+  row_moved content found place row is =
+      let Is = IsRowWith content found.systems found.reasons found.maps in
+      let waiting : Mount → Bool = λ mount. has_proposal waits (file_of mount) in
+      subst (λ (test : Mount → Bool). Is (newest_of heads) test place row) (λ i mount. sym (has (file_of mount)) i)
+      (subst (λ (find : Mount → Option Head). Is find waiting place row) (λ i mount. newest_moved (file_of mount) i) is)
 
   overview_moved : (content : Content) (found : Found) (made : OverviewRows) → AreOverviewRows (parts_of content others waits found) made
       → AreOverviewRows (parts_of content heads proposals found) made

@@ -6,7 +6,8 @@ use Rattle.desk_policy.specs.Policy.{Content}
 use Rattle.desk_who.specs.Runs.{Run}
 use Rattle.page_data.specs.Laws.{IsSoundSite}
 use Rattle.page_data.specs.Systems.{SystemValue}
-use Rattle.page_data.specs.Unique.{CountsAreUnique, ReasonsValue}
+use Rattle.page_data.specs.ReasonValues.{ReasonsValue}
+use Rattle.page_data.specs.Unique.{CountsAreUnique}
 use Rattle.page_data.specs.Values.{AreRunsOfSome}
 use Rattle.page_data.specs.declared.class.Class.{Class}
 use Rattle.page_data.specs.declared.lines.LineReasons.{LineReasons}

@@ -9,7 +9,8 @@ use Rattle.desk_impact.specs.Sections.{PlaceBreaches, PlaceFound}
 use Rattle.desk_impact.proofs.Telling.{map-filter}
 use Rattle.page_data.specs.Laws.{IsSoundSite, OrdersTellVerdicts, TellVerdicts}
 use Rattle.page_data.specs.Systems.{AreSystems, SystemValue}
-use Rattle.page_data.specs.Unique.{CountsAreUnique, reason_value}
+use Rattle.page_data.specs.ReasonValues.{reason_value}
+use Rattle.page_data.specs.Unique.{CountsAreUnique}
 use Rattle.page_data.specs.Values.{AreRunsOfSome}
 use Rattle.page_data.specs.declared.opening.Opening.{Opening}
 use Rattle.page_findings.specs.Deciding.{DecidedFor}

@@ -12,7 +12,7 @@ use Rattle.desk_text.specs.declared.address.Addr.{Addr}
 use Rattle.page_data.specs.Groups.{AreGrouped}
 use Rattle.page_data.specs.Laws.{IsSoundSite}
 use Rattle.page_data.specs.Reasons.{is_first, is_first_level, level_of_all}
-use Rattle.page_data.specs.Unique.{reason_value}
+use Rattle.page_data.specs.ReasonValues.{reason_value}
 use Rattle.page_data.specs.declared.reasons.Level.TheVariants.{LookFirst, Check}
 use Rattle.page_data.specs.declared.reasons.Reason.{Reason}
 use Rattle.page_data.specs.declared.reasons.Reason.TheVariants.{ServerGrantsMore}

@@ -8,7 +8,8 @@ use Rattle.desk_who.specs.Runs.{Run}
 use Rattle.page_data.specs.Counts.{granted_of}
 use Rattle.page_data.specs.Reasons.{is_first_level}
 use Rattle.page_data.specs.Systems.{AreSystems, SystemValue}
-use Rattle.page_data.specs.Unique.{ReasonsValue, WhatIsFoundIsUnique, reason_value, reasons_value}
+use Rattle.page_data.specs.ReasonValues.{ReasonsValue, reason_value, reasons_value}
+use Rattle.page_data.specs.Unique.{WhatIsFoundIsUnique}
 use Rattle.page_data.specs.Values.{AreRunsOfSome}
 use Rattle.page_data.specs.declared.class.Class.{Class}
 use Rattle.page_data.specs.declared.lines.LineReasons.{LineReasons}

@@ -1,5 +1,5 @@
 -- The rows of the file systems. (this project's own)
-use Rattle.std.specs.Prelude.{◌≡◌, ℕ, ◌+◌, ◌<◌, ◌==◌, ◌&&◌, not, Bool, List, [], Some, count_by, length, slice_get, slice_index_or}
+use Rattle.std.specs.Prelude.{◌≡◌, ℕ, ◌+◌, ◌<◌, ◌==◌, ◌&&◌, not, Bool, List, [], Option, Some, count_by, length, slice_get, slice_index_or}
 use Rattle.std.specs.Option.{option_copied}
 use Rattle.desk_text.specs.Path.{path_text}
 use Rattle.desk_tables.specs.declared.filesystems.Mount.{Mount}
@@ -35,21 +35,26 @@ pub record SiteParts : Type 0 where
   pub proposals : List Proposal
   pub maps : List (List (List ℕ))
 
--- The row of the file system at a place.
-pub record IsRowOf (site : SiteParts) (place : ℕ) (row : SystemRow) : Type 0 where
+-- The row of the file system at a place, given the newest revision of each file, and for which one a proposal waits.
+pub record IsRowWith (content : Content) (systems : List SystemValue) (reasons : List (List LineReasons)) (maps : List (List (List ℕ)))
+    (newest : Mount → Option Head) (waiting : Mount → Bool) (place : ℕ) (row : SystemRow) : Type 0 where
   pub mount : Mount
-  pub listed : slice_get site.content.table place ≡ Some mount
+  pub listed : slice_get content.table place ≡ Some mount
   pub system : SystemValue
-  pub found : slice_get site.systems place ≡ Some system
+  pub found : slice_get systems place ≡ Some system
   pub fs : row.fs.0 ≡ place
   pub name : row.name.now ≡ path_text mount.path
-  pub reach : IsReachOf system.classes (slice_index_or site.maps (place + 1) []) row.reach
+  pub reach : IsReachOf system.classes (slice_index_or maps (place + 1) []) row.reach
   pub custodians : row.custodians.now ≡ mount.custodians
   pub guarded : row.guarded ≡ mount.guarded
-  pub head : option_copied row.head ≡ newest_of site.heads mount
-  pub waits : row.has_proposal ≡ has_proposal site.proposals (file_of mount)
-  pub first : row.first ≡ count_by is_first_line (slice_index_or site.reasons place [])
-  pub check : row.check ≡ count_by is_check_line (slice_index_or site.reasons place [])
+  pub head : option_copied row.head ≡ newest mount
+  pub waits : row.has_proposal ≡ waiting mount
+  pub first : row.first ≡ count_by is_first_line (slice_index_or reasons place [])
+  pub check : row.check ≡ count_by is_check_line (slice_index_or reasons place [])
+
+abbrev pub IsRowOf : SiteParts → ℕ → SystemRow → Type 0
+IsRowOf site place row =
+    IsRowWith site.content site.systems site.reasons site.maps (newest_of site.heads) (λ mount. has_proposal site.proposals (file_of mount)) place row
 
 -- The rows of all file systems, in the order of their table.
 pub record AreSystemRows (site : SiteParts) (rows : List SystemRow) : Type 0 where
