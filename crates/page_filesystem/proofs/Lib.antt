@@ -1,4 +1,3 @@
-mod Cells
 mod InForce
 mod Lined
 mod Between

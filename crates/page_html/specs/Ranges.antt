@@ -17,6 +17,10 @@ pub record Ends : Type 0 where
 abbrev pub ends_of : Span → Ends
 ends_of span = record { first = addresses.number_of span.first; last = addresses.number_of span.last }
 
+-- the range between two numbers
+abbrev pub between : ℕ → ℕ → Span
+between first last = record { first = record { number = first }; last = record { number = last } }
+
 -- the network of this prefix that the first address is in begins and ends with the range
 abbrev pub is_network : Ends → ℕ → Bool
 is_network ends prefix = (block_of ends.first prefix).first == ends.first && last_of (block_of ends.first prefix) == ends.last

@@ -30,10 +30,3 @@ gathers_values value_of xs i d mark f start now one next below before marked add
     let v = value_of (get_or xs i d) in
     added ∙ ap (λ l. l ++ f v) marked ∙ append_assoc now (mark ∷ []) (f v) ∙ ap (λ l. l ++ (mark ∷ f v)) before
     ∙ flat_map_more (λ v. mark ∷ f v) start (map value_of (take i xs)) v ∙ ap (λ vs. start ++ flat_map (λ v. mark ∷ f v) vs) (sym (map_more value_of xs i d below))
-
--- a cell of one part before others, and a value before others
-pub part_before : {Y : Type 0} (c d : Y) (cells others : List (List Y)) → c ≡ d → cells ≡ others → (c ∷ []) ∷ cells ≡ (d ∷ []) ∷ others
-part_before c d cells others same rest = ap (λ y. (y ∷ []) ∷ cells) same ∙ ap (λ ys. (d ∷ []) ∷ ys) rest
-
-pub cell_before : {Y : Type 0} (c d : Y) (cells others : List Y) → c ≡ d → cells ≡ others → c ∷ cells ≡ d ∷ others
-cell_before c d cells others same rest = ap (λ y. y ∷ cells) same ∙ ap (λ ys. d ∷ ys) rest

@@ -1,14 +1,14 @@
 -- The cells of what is told of a name. (this project's own)
 use Rattle.std.specs.Prelude.{ℕ, ◌==◌, List, codes, length, map, if◌then◌else◌}
 use Rattle.page_html.specs.Items.{Item, Ranges, Strong, Zero, Own}
-use Rattle.page_html.specs.Ranges.{Ends}
+use Rattle.page_html.specs.Ranges.{Ends, between}
 use Rattle.page_html.specs.declared.ranges.Span.{Span}
 use Rattle.page_lists.specs.Mentions.{some_or}
 use Rattle.page_lists.specs.Uses.{MentionValue}
 
 -- the range between two ends
 abbrev pub span_of : Ends → Span
-span_of ends = record { first = record { number = ends.first }; last = record { number = ends.last } }
+span_of ends = between ends.first ends.last
 
 -- the addresses that a name stands for
 abbrev pub stands_for : List Ends → Item (List ℕ)

@@ -1,4 +1,4 @@
--- Parts that are gathered, some behind others, and the cells of a row.
+-- Parts that are gathered, some behind others.
 use Rattle.std.proofs.Common.{◌≡◌, ◌<◌, ◌+◌, ◌++◌, ◌∙◌, ℕ, List, [], ◌∷◌, ap, append_assoc, get_or, length, map, sym, take}
 use Rattle.std.specs.List.{flat_map}
 use Rattle.std.proofs.lemmas.List.{flat_map_more, map-append, map_more, take_more}
@@ -28,10 +28,3 @@ gathers_values value_of xs i d f start now next below before added =
     let x = value_of (get_or xs i d) in
     added ∙ ap (λ l. l ++ f x) before ∙ flat_map_more f start (map value_of (take i xs)) x
     ∙ ap (λ ys. start ++ flat_map f ys) (sym (map_more value_of xs i d below))
-
--- a cell of one part before others, and a value before others
-pub part_before : {Y : Type 0} (c d : Y) (cells others : List (List Y)) → c ≡ d → cells ≡ others → (c ∷ []) ∷ cells ≡ (d ∷ []) ∷ others
-part_before c d cells others same rest = ap (λ y. (y ∷ []) ∷ cells) same ∙ ap (λ ys. (d ∷ []) ∷ ys) rest
-
-pub cell_before : {Y : Type 0} (c d : Y) (cells others : List Y) → c ≡ d → cells ≡ others → c ∷ cells ≡ d ∷ others
-cell_before c d cells others same rest = ap (λ y. y ∷ cells) same ∙ ap (λ ys. d ∷ ys) rest

@@ -1,5 +1,6 @@
 -- What a proposal would change, and for whom. (this project's own)
 use Rattle.std.specs.Prelude.{ℕ, ◌==◌, true, List, [], ◌∷◌, ◌++◌, Result, Ok, Err, codes, length, map, nat_le, if◌then◌else◌}
+use Rattle.page_html.specs.Ranges.{between}
 use Rattle.desk_policy.specs.Verdict.{Grant}
 use Rattle.desk_policy.specs.declared.verdict.Denial.{Denial}
 use Rattle.desk_who.specs.Runs.{Run}
@@ -38,7 +39,7 @@ verdict_items verdict = badge_item (class_of verdict) ∷ words_behind verdict
 
 -- where something changes, for which addresses, how many they are, and what their verdict is now and then
 abbrev pub span_of : Run TwoVerdicts → Span
-span_of change = record { first = record { number = change.first }; last = record { number = change.last } }
+span_of change = between change.first change.last
 
 abbrev pub cells : PlaceChange → List (List (Item (List ℕ)))
 cells one =

@@ -1,5 +1,6 @@
 -- The rows of a table of verdicts. (this project's own)
 use Rattle.std.specs.Prelude.{ℕ, ◌+◌, ◌-◌, ◌^◌, false, List, [], ◌∷◌, Result, Ok, Err, codes, map, sum_by}
+use Rattle.page_html.specs.Ranges.{between}
 use Rattle.desk_text.specs.Address.{number_of}
 use Rattle.desk_policy.specs.Verdict.{Grant}
 use Rattle.desk_policy.specs.declared.verdict.Denial.{Denial}
@@ -21,7 +22,7 @@ pub record RowValue : Type 0 where
 
 -- a range of addresses without its verdict
 abbrev pub span_of : Run (Result Grant Denial) → Span
-span_of range = record { first = record { number = range.first }; last = record { number = range.last } }
+span_of range = between range.first range.last
 
 -- what is told of a row, and a row by value
 abbrev pub told_row : kept.RowValue → RowValue

@@ -1,6 +1,6 @@
 use Rattle.std.proofs.Common.{ap, refl}
 use Rattle.page_html.specs.Items.{Code}
-use Rattle.page_lists.proofs.Gathering.{cell_before}
+use Rattle.page_html.proofs.Gathered.{cell_before}
 use Rattle.page_lists.proofs.files.proposed_by.Goals as goal
 
 pub returns : goal.returns

@@ -3,8 +3,8 @@ use Rattle.std.specs.String.{string_bytes}
 use Rattle.std.proofs.lemmas.Result.{on_ok_weaker}
 use Rattle.page_html.specs.Items.{Number, Own}
 use Rattle.page_html.specs.Tables.{row_html}
+use Rattle.page_html.proofs.Gathered.{cell_before, part_before}
 use Rattle.page_places.specs.ChangeRows.{change_frame}
-use Rattle.page_places.proofs.Gathering.{cell_before, part_before}
 use Rattle.page_places.proofs.change_rows.push_change_row.Goals as goal
 
 pub returns : goal.returns

@@ -3,8 +3,8 @@ use Rattle.std.specs.String.{string_bytes}
 use Rattle.std.proofs.lemmas.Result.{on_ok_weaker}
 use Rattle.page_findings.specs.Badges.{badge_item}
 use Rattle.page_html.specs.Tables.{row_html}
+use Rattle.page_html.proofs.Gathered.{cell_before, part_before}
 use Rattle.page_places.specs.Rows.{amount, clients, row_value, size_of, verdict_frame}
-use Rattle.page_places.proofs.Gathering.{cell_before, part_before}
 use Rattle.page_places.proofs.rows.push_row_of.Goals as goal
 
 pub returns : goal.returns
