@@ -21,7 +21,8 @@ use Rattle.page_maps.specs.Shapes.{shapes}
 use Rattle.page_summary.specs.Amounts.{revisions_of}
 use Rattle.page_summary.specs.Figures.{figures}
 use Rattle.page_summary.specs.Files.{file_of, has_proposal, lines_by, newest_of}
-use Rattle.page_summary.specs.FindingRows.{AreFindingRows, FindingTable, findings_text, row_of, row_value}
+use Rattle.page_summary.specs.FindingRows.{AreFindingRows, FindingTable, findings_text, row_of}
+use Rattle.page_summary.specs.Findings.{row_value}
 use Rattle.page_summary.specs.FlavoursRows.{AreFlavoursRows}
 use Rattle.page_summary.specs.FlavoursTable.{flavours_table}
 use Rattle.page_summary.specs.Header.{header}

@@ -14,7 +14,6 @@ pub mod OneStanding
 pub mod OneWaiting
 mod Parts
 pub mod Pieces
-mod Plain
 mod Sites
 mod UniqueFound
 mod UniquePage

@@ -12,10 +12,9 @@ use Rattle.page_html.specs.Titles.{Title}
 use Rattle.page_html.specs.declared.blocks.Element.{Element}
 use Rattle.page_html.specs.declared.blocks.Tag.{Tag}
 use Rattle.page_html.specs.declared.blocks.Tag.TheVariants.{TableEnd}
-use Rattle.page_site.specs.MadeOfBlocks.{HasNoOtherHtml, IsMadeOfBlocks, fixed_texts}
+use Rattle.page_site.specs.MadeOfBlocks.{HasNoOtherHtml, IsMadeOfBlocks, IsPicture, fixed_texts}
 use Rattle.page_site.specs.Pieces.{Just, Then, Told}
-use Rattle.page_html.proofs.Plain.{ArePlain, ArePlainCells}
-use Rattle.page_site.proofs.Plain.{cells_alone, items_alone}
+use Rattle.page_html.proofs.Plain.{ArePlain, ArePlainCells, cells_alone, items_alone}
 
 page_append : (some others : List (Block (List ℕ))) → page_html (some ++ others) ≡ page_html some ++ page_html others
 unfolding page_html
@@ -49,7 +48,7 @@ if_made false own its = its
 
 -- ---- blocks
 pub element_made : (element : Element) (items : List (Item (List ℕ))) → ArePlain items → IsMadeOfBlocks (element_html element items)
-element_made element items plain = block_made (In element items) (items_alone plain)
+element_made element items plain = block_made (In element items) (items_alone IsPicture items plain.are)
 
 pub tag_made : (tag : Tag) → IsMadeOfBlocks (tag_html tag)
 tag_made tag = block_made (Alone tag) tt
@@ -67,10 +66,10 @@ pub start_made : (frame : Frame) (title : List (Title (List ℕ))) → IsMadeOfB
 start_made frame title = block_made (Start frame title) tt
 
 pub facts_made : (frame : Frame) (facts : List (List (Item (List ℕ)))) → ArePlainCells facts → IsMadeOfBlocks (facts_html frame facts)
-facts_made frame facts plain = block_made (Facts frame facts) (cells_alone plain)
+facts_made frame facts plain = block_made (Facts frame facts) (cells_alone IsPicture facts plain.are)
 
 pub row_made : (frame : Frame) (cells : List (List (Item (List ℕ)))) → ArePlainCells cells → IsMadeOfBlocks (row_html frame cells)
-row_made frame cells plain = block_made (Row frame cells) (cells_alone plain)
+row_made frame cells plain = block_made (Row frame cells) (cells_alone IsPicture cells plain.are)
 
 -- ---- lists
 pub each_made : {X : Type 0} (text : X → List ℕ) → ((x : X) → IsMadeOfBlocks (text x)) → (xs : List X) → IsMadeOfBlocks (flat_map text xs)

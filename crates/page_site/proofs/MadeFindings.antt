@@ -1,5 +1,5 @@
 -- The table of the lines that stand out is made of blocks.
-use Rattle.std.proofs.Common.{ℕ, ◌-◌, ◌==◌, List, [], ◌∷◌, codes, drop, length, refl, take}
+use Rattle.std.proofs.Common.{ℕ, ◌-◌, ◌==◌, List, [], ◌∷◌, codes, drop, length, map, refl, take}
 use Rattle.std.specs.Prelude.{count_by, nat_le}
 use Rattle.page_html.specs.Items.{Link, Number, Own, Plural, Words}
 use Rattle.page_html.specs.Tables.{Frame}
@@ -7,7 +7,7 @@ use Rattle.page_html.specs.Titles.{Said}
 use Rattle.page_html.specs.declared.blocks.Element.TheVariants.{Fold, Paragraph}
 use Rattle.page_html.specs.declared.blocks.Tag.TheVariants.{FoldEnd, TableEnd}
 use Rattle.page_summary.specs.FindingRows.{FindingTable, findings_text}
-use Rattle.page_summary.specs.Findings.{cells, counts, findings_frame, fold_start, folded_rows, is_first_row, lines_html, more_frame, no_finding, open_and_folded, open_rows, table}
+use Rattle.page_summary.specs.Findings.{cells, counts, findings_frame, fold_start, folded_rows, is_first_row, lines_html, more_frame, no_finding, open_and_folded, open_rows, row_value, table}
 use Rattle.page_summary.specs.declared.findings.FindingRow.{FindingRow}
 use Rattle.page_site.specs.MadeOfBlocks.{IsMadeOfBlocks}
 use Rattle.page_site.proofs.Made.{append_made, each_made, element_made, if_made, nothing_made, row_made, start_made, tag_made}
@@ -23,7 +23,7 @@ counts_made first others =
 -- ---- the table
 lines_made : (frame : Frame) (lines : List FindingRow) → IsMadeOfBlocks (lines_html frame lines)
 lines_made frame [] = nothing_made
-lines_made frame (first ∷ others) = row_made frame (cells first (first ∷ others)) (finding_cells_plain first (first ∷ others))
+lines_made frame (first ∷ others) = row_made frame (cells (row_value first) (map row_value (first ∷ others))) (finding_cells_plain (row_value first) (map row_value (first ∷ others)))
 
 finding_table_made : (frame : Frame) (title : List ℕ) (rows : List (List FindingRow)) → IsMadeOfBlocks (table frame title rows)
 finding_table_made frame title rows =

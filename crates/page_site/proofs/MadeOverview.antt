@@ -8,8 +8,9 @@ use Rattle.desk_core.specs.declared.proposal.Proposal.{Proposal}
 use Rattle.desk_policy.specs.Policy.{Content}
 use Rattle.desk_who.specs.Runs.{Run}
 use Rattle.page_data.specs.declared.class.Class.{Class}
-use Rattle.page_html.specs.Items.{Drawn, Item, Own}
+use Rattle.page_html.specs.Items.{Item}
 use Rattle.page_html.specs.Pages.{Row}
+use Rattle.page_html.specs.Pictures.{CellsHaveNoHtmlBut}
 use Rattle.page_html.specs.Tables.{filled, row_html, rows_html, short_row_html}
 use Rattle.page_html.specs.Titles.{Said}
 use Rattle.page_html.specs.declared.blocks.Tag.TheVariants.{TableEnd}
@@ -20,9 +21,9 @@ use Rattle.page_summary.specs.Overview.{any_cells, cells, legend, overview, over
 use Rattle.page_summary.specs.SystemRows.{AreOverviewRows, OverviewRows, overview_text}
 use Rattle.page_summary.specs.declared.overview.Reach.{Reach}
 use Rattle.page_summary.specs.declared.overview.SystemRow.{SystemRow}
-use Rattle.page_summary.proofs.PlainOverview.{CellsAre, ItemIs, ItemsAre, any_are, cells_are}
+use Rattle.page_summary.proofs.PlainOverview.{any_are, cells_are}
 use Rattle.page_site.specs.FoundInSite.{Found, IsFound}
-use Rattle.page_site.specs.MadeOfBlocks.{CellsHaveNoHtmlButPictures, HasNoHtmlButPictures, HaveNoHtmlButPictures, IsMadeOfBlocks, IsPicture}
+use Rattle.page_site.specs.MadeOfBlocks.{IsMadeOfBlocks, IsPicture}
 use Rattle.page_site.specs.Page.{parts_of}
 use Rattle.page_site.proofs.Made.{append_made, block_made, fixed_made, nothing_made, start_made, tag_made}
 
@@ -37,21 +38,8 @@ small_pictures (one ∷ drawn) = (inr (record { drawn = one; is = refl }), small
 pictures : (runs : List (Run Class)) (images others : List (List ℕ)) → images ≡ others → AreOverviewMaps runs others → ArePictures images
 pictures runs images others same maps = subst ArePictures (sym (same ∙ maps.images_are)) (small_pictures maps.drawn)
 
--- ---- cells in which only pictures stand as HTML
-item_alone : (item : Item (List ℕ)) → ItemIs IsPicture item → HasNoHtmlButPictures item
-item_alone (Own (Drawn image)) is = is
-item_alone item is = tt
-
-items_alone : (items : List (Item (List ℕ))) → ItemsAre IsPicture items → HaveNoHtmlButPictures items
-items_alone [] are = tt
-items_alone (item ∷ items) are = (item_alone item are.0, items_alone items are.1)
-
-cells_alone : (cells : List (List (Item (List ℕ)))) → CellsAre IsPicture cells → CellsHaveNoHtmlButPictures cells
-cells_alone [] are = tt
-cells_alone (items ∷ cells) are = (items_alone items are.0, cells_alone cells are.1)
-
-row_made : (cells : List (List (Item (List ℕ)))) → CellsAre IsPicture cells → IsMadeOfBlocks (row_html overview_frame cells)
-row_made cells are = block_made (Row overview_frame cells) (cells_alone cells are)
+row_made : (cells : List (List (Item (List ℕ)))) → CellsHaveNoHtmlBut IsPicture cells → IsMadeOfBlocks (row_html overview_frame cells)
+row_made cells are = block_made (Row overview_frame cells) are
 
 -- ---- the rows
 any_made : (together : Reach) → ArePictures (images_of together.maps.now) → IsMadeOfBlocks (short_row_html overview_frame (any_cells together))

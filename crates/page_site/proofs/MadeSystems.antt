@@ -24,10 +24,10 @@ use Rattle.page_html.specs.Titles.{Named, Said}
 use Rattle.page_html.specs.declared.blocks.Element.TheVariants as element
 use Rattle.page_html.specs.declared.blocks.Tag.TheVariants.{FindingsStart, FoldEnd, ListEnd, ProposalStart, SectionEnd, TableEnd}
 use Rattle.page_places.specs.Groups.{groups_text}
-use Rattle.page_site.specs.MadeOfBlocks.{IsMadeOfBlocks}
+use Rattle.page_site.specs.MadeOfBlocks.{IsMadeOfBlocks, IsPicture}
 use Rattle.page_site.proofs.Made.{append_made, block_made, each_made, element_made, facts_made, if_made, nothing_made, start_made, system_start_made, table_made, tag_made}
 use Rattle.page_site.proofs.MadePlaces.{changes_made, groups_start_made, not_listed_made}
-use Rattle.page_site.proofs.Plain.{cells_alone}
+use Rattle.page_html.proofs.Plain.{cells_alone}
 use Rattle.page_filesystem.proofs.Plain.{entry_plain, fact_plain, proposed_as_plain, proposed_plain, share_plain, text_plain}
 
 subheading_made : (words : List ℕ) → IsMadeOfBlocks (heading words)
@@ -55,7 +55,7 @@ proposal_start_made author revision guarded =
 proposed_row_made : (in_force : List (List ℕ)) (number : ℕ) (line : List ℕ) → IsMadeOfBlocks (proposals.proposed_row in_force number line)
 proposed_row_made in_force number line =
     block_made (MarkedRow (not (proposals.is_among in_force line)) proposals.frame (proposals.proposed_cells in_force number line))
-    (cells_alone (proposed_plain in_force number line))
+    (cells_alone IsPicture _ (proposed_plain in_force number line).are)
 
 proposed_rows_made : (in_force : List (List ℕ)) (before : ℕ) (given : List (List ℕ)) → IsMadeOfBlocks (proposals.proposed_rows in_force before given)
 proposed_rows_made in_force before [] = nothing_made
@@ -95,7 +95,7 @@ head_part_made part =
 -- ---- the text in force
 text_row_made : (fs number : ℕ) (note : Option Note) (line : List ℕ) → IsMadeOfBlocks (texts.text_row_with fs number note line)
 text_row_made fs number note line =
-    block_made (LineRow fs number (gutter.stands_out (gutter.told_of note)) texts.frame (texts.text_cells number note line)) (cells_alone (text_plain number note line))
+    block_made (LineRow fs number (gutter.stands_out (gutter.told_of note)) texts.frame (texts.text_cells number note line)) (cells_alone IsPicture _ (text_plain number note line).are)
 
 text_rows_made : (fs : ℕ) (notes : List Note) (before : ℕ) (given : List (List ℕ)) → IsMadeOfBlocks (texts.text_rows fs notes before given)
 text_rows_made fs notes before [] = nothing_made

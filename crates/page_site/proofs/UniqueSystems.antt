@@ -1,7 +1,6 @@
 -- The parts on file systems have one text.
-use Rattle.std.proofs.Common.{◌≡◌, ℕ, ◌+◌, ◌<◌, ◌==◌, ◌++◌, ◌∙◌, Bool, List, [], ◌∷◌, Option, Some, None, Result, Ok, Err, ap, arith, get_or, length, map, not, subst, sym}
+use Rattle.std.proofs.Common.{◌≡◌, ℕ, ◌+◌, ◌<◌, ◌==◌, ◌++◌, ◌∙◌, Bool, List, [], ◌∷◌, Option, Some, None, Result, Ok, Err, ap, arith, get_or, length, map, subst, sym}
 use Rattle.std.specs.Prelude.{All, filter}
-use Rattle.std.proofs.lemmas.List.{length-map}
 use Rattle.std.proofs.lemmas.List.Elements.{All-head, All-tail}
 use Rattle.desk_policy.specs.Policy.{Content}
 use Rattle.desk_policy.specs.declared.site_fault.SiteFault.{SiteFault}
@@ -9,15 +8,15 @@ use Rattle.desk_impact.specs.Sections.{PlaceBreaches, PlaceFound}
 use Rattle.desk_impact.proofs.Telling.{map-filter}
 use Rattle.page_data.specs.Laws.{IsSoundSite, OrdersTellVerdicts, TellVerdicts}
 use Rattle.page_data.specs.Systems.{AreSystems, SystemValue}
-use Rattle.page_data.specs.ReasonValues.{reason_value}
 use Rattle.page_data.specs.Unique.{CountsAreUnique}
 use Rattle.page_data.specs.Values.{AreRunsOfSome}
 use Rattle.page_data.specs.declared.opening.Opening.{Opening}
 use Rattle.page_findings.specs.Deciding.{DecidedFor}
-use Rattle.page_findings.specs.Findings.{stands_out}
+use Rattle.page_findings.specs.FindingWords.{FindingValue, finding_value}
 use Rattle.page_findings.specs.Lines.{LineValue}
 use Rattle.page_findings.specs.UniqueLaws.{AreAlike, KnownLine, LinesAreToldInOneWay, known_line}
 use Rattle.page_findings.specs.declared.finding_words.Finding.{Finding}
+use Rattle.page_findings.proofs.Alike.{stands_by}
 use Rattle.page_findings.proofs.Mapped.{map_twice}
 use Rattle.page_html.specs.Blocks.{element_html}
 use Rattle.page_html.specs.declared.blocks.Element.TheVariants.{Paragraph}
@@ -30,13 +29,14 @@ use Rattle.page_places.specs.declared.change_rows.ChangeRow.{ChangeRow}
 use Rattle.page_filesystem.specs.OwnLines.{lines_in}
 use Rattle.page_filesystem.specs.OwnParts.{own_lines, runs_in}
 use Rattle.page_filesystem.specs.Outcomes.{outcome_text, refused}
-use Rattle.page_filesystem.specs.UniqueLaws.{AreAlikeIfAny, AreGivenAlike, FileSystemsAreToldInOneWay, KnownFinding, known_finding}
+use Rattle.page_filesystem.specs.UniqueLaws.{AreAlikeIfAny, AreGivenAlike, FileSystemsAreToldInOneWay}
 use Rattle.page_filesystem.specs.declared.outcomes.Outcome.{Outcome}
 use Rattle.page_filesystem.specs.declared.outcomes.Outcome.TheVariants.{Changes, Refused}
 use Rattle.page_filesystem.specs.declared.own_parts.FileSystemData.{FileSystemData}
 use Rattle.page_filesystem.specs.declared.parts.ProposalPart.{ProposalPart}
-use Rattle.page_summary.specs.SiteFinding.{FindingValue, deciding_for, finding_of, finding_value, findings_among, is_for_network}
+use Rattle.page_summary.specs.SiteFinding.{SiteFindingValue, site_finding_value}
 use Rattle.page_summary.specs.declared.site_finding.SiteFinding.{SiteFinding}
+use Rattle.page_summary.proofs.UniqueFindings.{findings_by, made_by}
 use Rattle.page_site.specs.FoundInSite.{Found, Source}
 use Rattle.page_site.specs.SystemParts.{AreChangesBy, AreFindingsIn, AreGroupsIn, AreTextsFrom, IsDataOf, IsFaultIn, IsSystemText, TellingValue, TellsIfAny, TellsOutcome, telling_of, waiting_for}
 use Rattle.page_site.specs.UniqueLaws.{HasOneText, SystemsAreToldInOneWay}
@@ -51,46 +51,16 @@ lines_alike lines others fs alike =
     map-filter known_line own lines ∙ ap (filter own) alike ∙ sym (map-filter known_line own others)
 
 -- ---- those that stand out
-abbrev known_value : FindingValue → KnownFinding
-known_value value = record {
-  fs = value.fs;
-  line = value.line;
-  reasons = map reason_value value.reasons;
-  terms = value.terms;
-  is_for_network = value.is_for_network;
-  deciding = value.deciding;
-}
-
-abbrev known_of : List (List DecidedFor) → KnownLine → KnownFinding
-known_of decided line = record {
-  fs = line.fs;
-  line = line.row.entry.line;
-  reasons = line.reasons;
-  terms = line.row.entry.terms;
-  is_for_network = is_for_network line.row.entry.clients;
-  deciding = deciding_for decided line.fs line.row.entry.line;
-}
-
-abbrev is_told : KnownLine → Bool
-is_told line = not (length line.reasons == 0)
-
-told_by : (line : LineValue) → stands_out line ≡ is_told (known_line line)
-told_by line = ap (λ n. not (n == 0)) (sym (length-map line.reasons reason_value))
-
-values_by : (decided : List (List DecidedFor)) (lines : List LineValue) → map known_value (findings_among decided lines) ≡ map (known_of decided) (filter is_told (map known_line lines))
-values_by decided lines =
-    let same : filter stands_out lines ≡ filter (λ line. is_told (known_line line)) lines = λ i. filter (λ line. told_by line i) lines in
-    map_twice (finding_of decided) known_value (filter stands_out lines) ∙ ap (map (λ (line : LineValue). known_of decided (known_line line))) same
-    ∙ sym (map_twice known_line (known_of decided) (filter (λ line. is_told (known_line line)) lines))
-    ∙ ap (map (known_of decided)) (map-filter known_line is_told lines)
-
-findings_by : (counted : List SiteFinding) → map known_finding (map (λ (one : SiteFinding). one.finding) counted) ≡ map known_value (map finding_value counted)
-findings_by counted = map_twice (λ (one : SiteFinding). one.finding) known_finding counted ∙ sym (map_twice finding_value known_value counted)
+abbrev finding_by : List (List DecidedFor) → KnownLine → FindingValue
+finding_by decided line = made_by decided (λ (value : SiteFindingValue). value.finding) line
 
 findings_in : (telling : TellingValue) (fs : ℕ) (findings : List Finding) → AreFindingsIn telling fs findings
-    → map known_finding findings ≡ map (known_of telling.decided) (filter is_told (map known_line (lines_in telling.lines fs)))
+    → map finding_value findings ≡ map (finding_by telling.decided) (filter stands_by (map known_line (lines_in telling.lines fs)))
 findings_in telling fs findings are =
-    ap (map known_finding) are.findings_are ∙ findings_by are.counted ∙ ap (map known_value) are.are ∙ values_by telling.decided (lines_in telling.lines fs)
+    ap (map finding_value) are.findings_are ∙ map_twice (λ (one : SiteFinding). one.finding) finding_value are.counted
+    ∙ sym (map_twice site_finding_value (λ (value : SiteFindingValue). value.finding) are.counted)
+    ∙ ap (map (λ (value : SiteFindingValue). value.finding)) are.are
+    ∙ findings_by telling.decided (λ (value : SiteFindingValue). value.finding) (lines_in telling.lines fs)
 
 -- ---- what waits
 module _ (changes : ChangesAreToldInOneWay) (content : Content) where
@@ -152,8 +122,8 @@ module _ (places : PlacesAreToldInOneWay) (parts : FileSystemsAreToldInOneWay) (
         let own : own_lines given ≡ lines_in found.lines fs = λ i. lines_in (is.lines i) (is.fs_is i) in
         let own_too : own_lines other ≡ lines_in second.lines fs = λ i. lines_in (its.lines i) (its.fs_is i) in
         let lines : AreAlike (lines_in found.lines fs) (lines_in second.lines fs) = lines_alike found.lines second.lines fs alike in
-        let known : map (known_of found.decided) (filter is_told (map known_line (lines_in found.lines fs))) ≡ map (known_of second.decided) (filter is_told (map known_line (lines_in second.lines fs))) =
-        λ i. map (known_of (decided i)) (filter is_told (lines i)) in
+        let known : map (finding_by found.decided) (filter stands_by (map known_line (lines_in found.lines fs))) ≡ map (finding_by second.decided) (filter stands_by (map known_line (lines_in second.lines fs))) =
+        λ i. map (finding_by (decided i)) (filter stands_by (lines i)) in
         record {
           policy = is.policy ∙ sym its.policy;
           fs = is.fs_is ∙ sym its.fs_is;

@@ -3,8 +3,8 @@ use Rattle.std.specs.Prelude.{◌≡◌, ◌⊎◌, ℕ, Contains, List, [], ◌
 use Rattle.std.specs.List.{AllByRecursion}
 use Rattle.desk_core.specs.declared.head.Head.{Head as Revision}
 use Rattle.desk_core.specs.declared.proposal.Proposal.{Proposal}
-use Rattle.page_html.specs.Items.{Drawn, Item, Own}
 use Rattle.page_html.specs.Pages.{Alone, Block, Facts, Fixed, Head, In, LineRow, MarkedRow, Row, Start, SystemStart, page_html}
+use Rattle.page_html.specs.Pictures.{CellsHaveNoHtmlBut, HaveNoHtmlBut}
 use Rattle.page_lists.specs.Reading.{how_to_read}
 use Rattle.page_maps.specs.Drawing.{small_map}
 use Rattle.page_maps.specs.Figures.{figure_image}
@@ -27,28 +27,15 @@ IsPicture image = IsImageBy figure_image image ⊎ IsImageBy small_map image
 abbrev pub fixed_texts : List (List ℕ)
 fixed_texts = shapes ∷ links ∷ legend ∷ how_to_read ∷ []
 
--- what stands as HTML in a part, if anything does, is a picture: only `Drawn` is not escaped
-abbrev pub HasNoHtmlButPictures : Item (List ℕ) → Type 0
-HasNoHtmlButPictures (Own (Drawn image)) = IsPicture image
-HasNoHtmlButPictures item = Unit {0}
-
--- the same of some parts
-abbrev pub HaveNoHtmlButPictures : List (Item (List ℕ)) → Type 0
-HaveNoHtmlButPictures items = AllByRecursion HasNoHtmlButPictures items
-
--- and of the parts of cells
-abbrev pub CellsHaveNoHtmlButPictures : List (List (Item (List ℕ))) → Type 0
-CellsHaveNoHtmlButPictures cells = AllByRecursion HaveNoHtmlButPictures cells
-
 -- What stands as HTML in a block is one of the fixed texts or a picture. All other texts that a block is given are escaped.
 abbrev pub HasNoOtherHtml : Block (List ℕ) → Type 0
 HasNoOtherHtml (Head title) = Unit {0}
 HasNoOtherHtml (Start frame title) = Unit {0}
-HasNoOtherHtml (Row frame cells) = CellsHaveNoHtmlButPictures cells
-HasNoOtherHtml (MarkedRow is_marked frame cells) = CellsHaveNoHtmlButPictures cells
-HasNoOtherHtml (LineRow fs line is_marked frame cells) = CellsHaveNoHtmlButPictures cells
-HasNoOtherHtml (Facts frame facts) = CellsHaveNoHtmlButPictures facts
-HasNoOtherHtml (In element items) = HaveNoHtmlButPictures items
+HasNoOtherHtml (Row frame cells) = CellsHaveNoHtmlBut IsPicture cells
+HasNoOtherHtml (MarkedRow is_marked frame cells) = CellsHaveNoHtmlBut IsPicture cells
+HasNoOtherHtml (LineRow fs line is_marked frame cells) = CellsHaveNoHtmlBut IsPicture cells
+HasNoOtherHtml (Facts frame facts) = CellsHaveNoHtmlBut IsPicture facts
+HasNoOtherHtml (In element items) = HaveNoHtmlBut IsPicture items
 HasNoOtherHtml (Alone tag) = Unit {0}
 HasNoOtherHtml (SystemStart fs) = Unit {0}
 HasNoOtherHtml (Fixed html) = Contains fixed_texts html

@@ -25,7 +25,7 @@ use Rattle.page_findings.specs.declared.finding_words.Finding.{Finding}
 use Rattle.page_filesystem.specs.OwnLines.{lines_in}
 use Rattle.page_filesystem.specs.OwnParts.{IsPartOf}
 use Rattle.page_filesystem.specs.declared.own_parts.FileSystemData.{FileSystemData}
-use Rattle.page_summary.specs.SiteFinding.{finding_value, findings_among}
+use Rattle.page_summary.specs.SiteFinding.{findings_among, site_finding_value}
 use Rattle.page_summary.specs.declared.site_finding.SiteFinding.{SiteFinding}
 use Rattle.page_places.specs.Changes.{AreChangesIn, ChangesValue, row_value}
 use Rattle.page_places.specs.ListedGroups.{AreListedGroups, listed_value}
@@ -90,7 +90,7 @@ TellsIfAny content (Some waiting) None = ⊥
 -- the lines of a file system that stand out, as they are told
 pub record AreFindingsIn (telling : TellingValue) (fs : ℕ) (findings : List Finding) : Type 0 where
   pub counted : List SiteFinding
-  pub are : map finding_value counted ≡ findings_among telling.decided (lines_in telling.lines fs)
+  pub are : map site_finding_value counted ≡ findings_among telling.decided (lines_in telling.lines fs)
   pub findings_are : findings ≡ map (λ one. one.finding) counted
 
 -- the groups of a file system's directories, as they are given

@@ -2,28 +2,17 @@
 use Rattle.std.proofs.Common.{◌≡◌, ℕ, ◌==◌, ◌&&◌, List, [], ◌∷◌, ◌++◌, Bool, true, false, Option, Some, None, codes, map, refl}
 use Rattle.std.specs.List.{AllByRecursion}
 use Rattle.std.specs.Option.{option_copied}
-use Rattle.std.proofs.lemmas.Bool.{false≢true}
 use Rattle.desk_core.specs.declared.head.Head.{Head}
 use Rattle.page_data.specs.declared.class.Class.{Class}
-use Rattle.page_html.specs.Items.{Drawn, Item, Nothing, Own, Words, Zero}
+use Rattle.page_html.specs.Items.{Item, Nothing, Own, Words, Zero}
+use Rattle.page_html.specs.Pictures.{CellsHaveNoHtmlBut}
 use Rattle.page_html.specs.Tables.{Column, filled}
-use Rattle.page_html.proofs.Plain.{ArePlain, both, cells_have_no_picture, either_plain, first_of, has_no_picture, have_no_picture, parts, second_of}
+use Rattle.page_html.proofs.Plain.{ArePlain, both, cells_alone, cells_have_no_picture, either_plain, item_alone, parts}
 use Rattle.page_findings.proofs.Plain.{badge_plain}
 use Rattle.page_maps.specs.Figures.{images_of}
 use Rattle.page_summary.specs.Overview.{any_cells, cells, first_level, in_force, keepers, map_cell, overview_frame, reach_cells, second_level, standing_out, told_cells, waits}
 use Rattle.page_summary.specs.declared.overview.Reach.{Reach}
 use Rattle.page_summary.specs.declared.overview.SystemRow.{SystemRow}
-
--- what stands as HTML in a part, if anything does, is one of some images; and the same of the parts of cells
-abbrev pub ItemIs : (List ℕ → Type 0) → Item (List ℕ) → Type 0
-ItemIs IsImage (Own (Drawn image)) = IsImage image
-ItemIs IsImage item = Unit {0}
-
-abbrev pub ItemsAre : (List ℕ → Type 0) → List (Item (List ℕ)) → Type 0
-ItemsAre IsImage items = AllByRecursion (ItemIs IsImage) items
-
-abbrev pub CellsAre : (List ℕ → Type 0) → List (List (Item (List ℕ))) → Type 0
-CellsAre IsImage cells = AllByRecursion (ItemsAre IsImage) cells
 
 -- ---- the cells that have no picture
 keepers_plain : (custodians : List (List ℕ)) (guarded : Bool) → ArePlain (keepers custodians guarded)
@@ -53,49 +42,33 @@ told_plain head system =
 
 -- ---- the rows, whatever the images of their maps are
 module _ (IsImage : List ℕ → Type 0) where
-  item_is : (item : Item (List ℕ)) → has_no_picture item ≡ true → ItemIs IsImage item
-  item_is (Own (Drawn image)) is = absurd (false≢true is)
-  item_is item is = tt
-
-  items_are : (items : List (Item (List ℕ))) → have_no_picture items ≡ true → ItemsAre IsImage items
-  items_are [] are = tt
-  items_are (item ∷ items) are =
-      (item_is item (first_of (has_no_picture item) (have_no_picture items) are), items_are items (second_of (has_no_picture item) (have_no_picture items) are))
-
-  plain_are : (cells : List (List (Item (List ℕ)))) → cells_have_no_picture cells ≡ true → CellsAre IsImage cells
-  plain_are [] are = tt
-  plain_are (items ∷ cells) are = (
-    items_are items (first_of (have_no_picture items) (cells_have_no_picture cells) are),
-    plain_are cells (second_of (have_no_picture items) (cells_have_no_picture cells) are),
-  )
-
-  maps_before : (images : List (List ℕ)) (others : List (List (Item (List ℕ)))) → AllByRecursion IsImage images → CellsAre IsImage others
-      → CellsAre IsImage (map map_cell images ++ others)
+  maps_before : (images : List (List ℕ)) (others : List (List (Item (List ℕ)))) → AllByRecursion IsImage images → CellsHaveNoHtmlBut IsImage others
+      → CellsHaveNoHtmlBut IsImage (map map_cell images ++ others)
   maps_before [] others are its = its
   maps_before (image ∷ images) others are its = ((are.0, tt), maps_before images others are.1 its)
 
-  cells_before : (some others : List (List (Item (List ℕ)))) → CellsAre IsImage some → CellsAre IsImage others → CellsAre IsImage (some ++ others)
+  cells_before : (some others : List (List (Item (List ℕ)))) → CellsHaveNoHtmlBut IsImage some → CellsHaveNoHtmlBut IsImage others → CellsHaveNoHtmlBut IsImage (some ++ others)
   cells_before [] others own its = its
   cells_before (items ∷ some) others own its = (own.0, cells_before some others own.1 its)
 
-  filled_are : (columns : List Column) (cells : List (List (Item (List ℕ)))) → CellsAre IsImage cells → CellsAre IsImage (filled columns cells)
+  filled_are : (columns : List Column) (cells : List (List (Item (List ℕ)))) → CellsHaveNoHtmlBut IsImage cells → CellsHaveNoHtmlBut IsImage (filled columns cells)
   filled_are [] cells are = tt
   filled_are (column ∷ columns) [] are = (tt, filled_are columns [] tt)
   filled_are (column ∷ columns) (items ∷ cells) are = (are.0, filled_are columns cells are.1)
 
-  reach_are : (most : Class) (images : List (List ℕ)) (addresses : ℕ) → AllByRecursion IsImage images → CellsAre IsImage (reach_cells most images addresses)
-  reach_are most images addresses are = ((item_is _ (badge_plain most).is, tt), maps_before images _ are ((tt, tt), tt))
+  reach_are : (most : Class) (images : List (List ℕ)) (addresses : ℕ) → AllByRecursion IsImage images → CellsHaveNoHtmlBut IsImage (reach_cells most images addresses)
+  reach_are most images addresses are = ((item_alone IsImage _ (badge_plain most).is, tt), maps_before images _ are ((tt, tt), tt))
 
   pub any_are : (together : Reach) → AllByRecursion IsImage (images_of together.maps.now)
-      → CellsAre IsImage (filled overview_frame.columns (any_cells together))
+      → CellsHaveNoHtmlBut IsImage (filled overview_frame.columns (any_cells together))
   any_are together are =
       filled_are overview_frame.columns (any_cells together) ((tt, tt), reach_are together.most (images_of together.maps.now) together.addresses are)
 
-  pub cells_are : (system : SystemRow) → AllByRecursion IsImage (images_of system.reach.maps.now) → CellsAre IsImage (cells system)
+  pub cells_are : (system : SystemRow) → AllByRecursion IsImage (images_of system.reach.maps.now) → CellsHaveNoHtmlBut IsImage (cells system)
   cells_are system are =
       let images = images_of system.reach.maps.now in
       let told = told_cells (option_copied system.head) system in (
         (tt, tt),
         cells_before (reach_cells system.reach.most images system.reach.addresses) told
-            (reach_are system.reach.most images system.reach.addresses are) (plain_are told (told_plain (option_copied system.head) system)),
+            (reach_are system.reach.most images system.reach.addresses are) (cells_alone IsImage told (told_plain (option_copied system.head) system)),
       )

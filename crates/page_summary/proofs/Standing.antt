@@ -5,13 +5,13 @@ use Rattle.std.proofs.lemmas.List.Concat.{flat_map-cons}
 use Rattle.page_findings.specs.Deciding.{DecidedFor}
 use Rattle.page_findings.specs.Findings.{stands_out}
 use Rattle.page_findings.specs.Lines.{LineValue}
-use Rattle.page_summary.specs.SiteFinding.{FindingValue, finding_if, finding_of, findings_among}
+use Rattle.page_summary.specs.SiteFinding.{SiteFindingValue, finding_if, finding_of, findings_among}
 
 pub standing_out : (decided : List (List DecidedFor)) (lines : List LineValue) → flat_map (finding_if decided) lines ≡ findings_among decided lines
 standing_out decided [] = refl
 standing_out decided (line ∷ lines) = flat_map-cons (finding_if decided) line lines ∙ by (stands_out line) (standing_out decided lines)
   where
-    told : List FindingValue
+    told : List SiteFindingValue
     told = flat_map (finding_if decided) lines
 
     left : List LineValue

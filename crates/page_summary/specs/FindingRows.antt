@@ -5,28 +5,19 @@ use Rattle.desk_core.specs.declared.head.Head.{Head}
 use Rattle.page_findings.specs.Deciding.{DecidedFor}
 use Rattle.page_findings.specs.Findings.{AreFindings}
 use Rattle.page_findings.specs.Lines.{LineValue}
-use Rattle.page_summary.specs.Findings.{counted_findings, findings}
+use Rattle.page_summary.specs.Findings.{RowValue, counted_findings, findings, row_value}
 use Rattle.page_summary.specs.declared.findings.FindingRow.{FindingRow}
 use Rattle.page_summary.specs.SharedRows.{AreSharedRows}
-use Rattle.page_summary.specs.SiteFinding.{FindingValue, finding_value, findings_among}
+use Rattle.page_summary.specs.SiteFinding.{SiteFindingValue, findings_among}
 use Rattle.page_summary.specs.Files.{line_in, name_of, text_in_force}
 
--- a line that stands out, the name of its file system, and the first physical line of its text
-pub record RowValue : Type 0 where
-  pub told : FindingValue
-  pub system : List ℕ
-  pub text : List ℕ
-
-abbrev pub row_value : FindingRow → RowValue
-row_value row = record {
-  told = finding_value row.told;
-  system = row.system.now;
-  text = row.text.now;
-}
-
 -- the row of a line that stands out, given the lines in force of each file system
-abbrev pub row_of : List Mount → List (List (List ℕ)) → FindingValue → RowValue
-row_of table texts told = record { told = told; system = name_of table told.fs; text = line_in texts told.fs told.line }
+abbrev pub row_of : List Mount → List (List (List ℕ)) → SiteFindingValue → RowValue
+row_of table texts told = record {
+  told = told;
+  system = name_of table told.finding.fs;
+  text = line_in texts told.finding.fs told.finding.line;
+}
 
 -- lines that stand out, and the same lines in rows
 pub record FindingTable : Type 0 where

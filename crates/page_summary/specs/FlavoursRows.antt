@@ -31,8 +31,11 @@ row_value row = record { flavours = row.flavours.now; lines = row.lines; writabl
 abbrev pub systems_of : List Mount → UseValue → List MentionValue
 systems_of table one = map (named_in table) one.filesystems
 
+abbrev pub row_with : UseValue → List MentionValue → FlavoursValue
+row_with one systems = record { flavours = one.flavours; lines = one.lines; writable = one.read_write; systems = systems }
+
 abbrev pub row_of : List Mount → UseValue → FlavoursValue
-row_of table one = record { flavours = one.flavours; lines = one.lines; writable = one.read_write; systems = systems_of table one }
+row_of table one = row_with one (systems_of table one)
 
 -- The rows of the flavours of the lines that grant something, in their order.
 pub record AreFlavoursRows (table : List Mount) (lines : List LineValue) (rows : List FlavoursRow) : Type 0 where

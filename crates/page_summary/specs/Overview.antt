@@ -70,11 +70,12 @@ standing_out first check =
     else (if check == 0 then first_level first ∷ Own Nothing ∷ Own Nothing ∷ []
     else first_level first ∷ Own (Words (codes ", ")) ∷ second_level check ∷ []))
 
--- the cells of a row for a file system, given the images of its maps and its newest revision: its name, how far it reaches, and the others
+-- what a row for a file system tells behind its maps, given its newest revision
 abbrev pub told_cells : Option Head → SystemRow → List (List (Item (List ℕ)))
 told_cells head system =
     keepers system.custodians.now system.guarded ∷ in_force head system.has_proposal ∷ standing_out system.first system.check ∷ []
 
+-- its cells, given the images of its maps: its name, how far it reaches, and the others
 abbrev pub cells_with : List (List ℕ) → Option Head → SystemRow → List (List (Item (List ℕ)))
 cells_with images head system =
     (System system.fs.0 system.name.now ∷ []) ∷ reach_cells system.reach.most images system.reach.addresses ++ told_cells head system

@@ -6,26 +6,30 @@ use Rattle.desk_exports.specs.declared.entry.Clients.TheVariants.{Hosts, Net, Ne
 use Rattle.page_html.specs.Items.{Break, Code, Item, LineLink, Number, Own, Terms, items_html}
 use Rattle.page_findings.specs.FindingWords.{finding_items}
 use Rattle.page_data.specs.Groups.{AreGrouped}
+use Rattle.page_summary.specs.Findings.{RowValue, row_value}
 use Rattle.page_summary.specs.declared.findings.FindingRow.{FindingRow}
 
 -- of a line for written names: why it stands out in words, on what terms it grants something, to how many addresses, and the names
-abbrev pub told_of_names : FindingRow → List (List ℕ) → List (Item (List ℕ))
+abbrev pub told_of_names : RowValue → List (List ℕ) → List (Item (List ℕ))
 told_of_names row names =
-    finding_items row.told.finding ++ Own Break ∷ Own (Terms row.told.finding.terms.now) ∷ Own Break ∷ Own (Number row.told.count) ∷ Own Break ∷ map Code names
+    finding_items row.told.finding ++ Own Break ∷ Own (Terms row.told.finding.terms) ∷ Own Break ∷ Own (Number row.told.count) ∷ Own Break ∷ map Code names
 
 -- of any other line: its place, which no other line has
-abbrev pub place_of : FindingRow → List (Item (List ℕ))
-place_of row = Own (LineLink row.told.finding.fs.0 row.told.finding.line) ∷ []
+abbrev pub place_of : RowValue → List (Item (List ℕ))
+place_of row = Own (LineLink row.told.finding.fs row.told.finding.line) ∷ []
 
-abbrev pub told_of : FindingRow → Clients → List (Item (List ℕ))
+abbrev pub told_of : RowValue → Clients → List (Item (List ℕ))
 told_of row (Hosts names) = told_of_names row names
 told_of row (Net net noted) = place_of row
 told_of row (Net6 value) = place_of row
 told_of row World = place_of row
 
 -- by this text lines are told apart
+abbrev pub told_by : RowValue → List ℕ
+told_by row = items_html (told_of row row.told.clients)
+
 abbrev pub told : FindingRow → List ℕ
-told row = items_html (told_of row row.told.clients.now)
+told row = told_by (row_value row)
 
 -- two lines are told alike
 abbrev pub are_told_alike : FindingRow → FindingRow → Bool

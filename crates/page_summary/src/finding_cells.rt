@@ -7,6 +7,7 @@ ghost use Rattle.page_html.specs.Items.{Break, Own};
 ghost use Rattle.page_html.specs.Parts.{item_of};
 ghost use Rattle.page_html.specs.Tables.{frame_of, row_html};
 ghost use Rattle.page_summary.specs.Findings as spec;
+ghost use Rattle.page_summary.specs.Findings.{row_value};
 
 use crate::findings::{FindingRow, SPACE};
 use page_findings::{finding_parts, level_part};
@@ -41,7 +42,7 @@ fn push_first(
     page: &mut String,
 ) -> Result<(), AllocError>
     requires { length frame.now.columns.now ≡ length spec.columns }
-    ensures { OnOk result (string_bytes page.new ≡ string_bytes page.old ++ row_html (frame_of frame.now) (spec.cells first.now lines.now)) }
+    ensures { OnOk result (string_bytes page.new ≡ string_bytes page.old ++ row_html (frame_of frame.now) (spec.cells (row_value first.now) (map row_value lines.now))) }
 {
     let places = places_parts(alloc, lines)?;
     let what = what_parts(alloc, first, lines.len())?;
@@ -61,7 +62,7 @@ fn push_first(
 
 /// Gathers where the first of some lines stand, and how many more there are.
 fn places_parts<'a>(alloc: Global, lines: &[FindingRow<'a>]) -> Result<Vec<Part<'a>>, AllocError>
-    ensures { IfOk result (λ parts. map item_of parts.items ≡ spec.places lines.now) }
+    ensures { IfOk result (λ parts. map item_of parts.items ≡ spec.places (map row_value lines.now)) }
 {
     let mut parts = Vec::new(alloc);
     let (named, others) = lines.split_at(MOST_LINES.min(lines.len()));
@@ -72,7 +73,7 @@ fn places_parts<'a>(alloc: Global, lines: &[FindingRow<'a>]) -> Result<Vec<Part<
 
 /// Adds where lines stand, with breaks between them.
 fn push_places<'a>(lines: &[FindingRow<'a>], parts: &mut Vec<Part<'a>>) -> Result<(), AllocError>
-    ensures { OnOk result (map item_of parts.new.items ≡ map item_of parts.old.items ++ spec.some_places lines.now) }
+    ensures { OnOk result (map item_of parts.new.items ≡ map item_of parts.old.items ++ spec.some_places (map row_value lines.now)) }
 {
     match lines {
         [] => Ok(()),
@@ -89,7 +90,7 @@ fn push_later_places<'a>(
     parts: &mut Vec<Part<'a>>,
 ) -> Result<(), AllocError>
     ensures { OnOk result (map item_of parts.new.items
-        ≡ map item_of parts.old.items ++ flat_map (λ line. Own Break ∷ spec.place line) lines.now) }
+        ≡ map item_of parts.old.items ++ flat_map (λ line. Own Break ∷ spec.place line) (map row_value lines.now)) }
 {
     for line in lines {
         parts.push(Part::Break)?;
@@ -100,7 +101,7 @@ fn push_later_places<'a>(
 
 /// Adds links to the file system of a line, and to the line.
 fn push_place<'a>(line: &FindingRow<'a>, parts: &mut Vec<Part<'a>>) -> Result<(), AllocError>
-    ensures { OnOk result (map item_of parts.new.items ≡ map item_of parts.old.items ++ spec.place line.now) }
+    ensures { OnOk result (map item_of parts.new.items ≡ map item_of parts.old.items ++ spec.place (row_value line.now)) }
 {
     let place = [
         Part::System(line.told.finding.fs, line.system),
@@ -117,7 +118,7 @@ fn what_parts<'a>(
     first: &FindingRow<'a>,
     count: usize,
 ) -> Result<Vec<Part<'a>>, AllocError>
-    ensures { IfOk result (λ parts. map item_of parts.items ≡ spec.what first.now count) }
+    ensures { IfOk result (λ parts. map item_of parts.items ≡ spec.what (row_value first.now) count) }
 {
     let mut parts = finding_parts(alloc, &first.told.finding)?;
     push_shared(count, &mut parts)?;

@@ -7,8 +7,9 @@ ghost use Rattle.page_findings.specs.Lines.{line_value};
 ghost use Rattle.page_summary.specs.Adding.{Adds};
 ghost use Rattle.page_summary.specs.Files.{line_values};
 ghost use Rattle.page_summary.specs.FindingRows as spec;
-ghost use Rattle.page_summary.specs.FindingRows.{AreFindingRows, findings_text, row_value};
-ghost use Rattle.page_summary.specs.SiteFinding.{finding_value};
+ghost use Rattle.page_summary.specs.FindingRows.{AreFindingRows, findings_text};
+ghost use Rattle.page_summary.specs.Findings.{row_value};
+ghost use Rattle.page_summary.specs.SiteFinding.{site_finding_value};
 
 use crate::files::{line_in, name_of, texts_in_force};
 use crate::findings::{FindingRow, push_counted_findings, push_findings};
@@ -52,7 +53,7 @@ fn finding_rows<'a>(
     texts: &[Sequence<&'a str>],
     found: &[SiteFinding<'a>],
 ) -> Result<Vec<FindingRow<'a>>, AllocError>
-    ensures { IfOk result (λ rows. map row_value rows.items ≡ map (spec.row_of table.now (map line_values texts.now)) (map finding_value found.now)) }
+    ensures { IfOk result (λ rows. map row_value rows.items ≡ map (spec.row_of table.now (map line_values texts.now)) (map site_finding_value found.now)) }
 {
     let mut rows = Vec::new(alloc);
     for one in found {
@@ -67,7 +68,7 @@ fn finding_row<'a>(
     texts: &[Sequence<&'a str>],
     one: &SiteFinding<'a>,
 ) -> FindingRow<'a>
-    ensures { row_value result ≡ spec.row_of table.now (map line_values texts.now) (finding_value one.now) }
+    ensures { row_value result ≡ spec.row_of table.now (map line_values texts.now) (site_finding_value one.now) }
 {
     FindingRow {
         told: *one,

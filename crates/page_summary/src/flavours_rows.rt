@@ -94,8 +94,7 @@ fn flavours_rows<'b>(
 
 /// Makes the row of flavours, given their file systems.
 fn flavours_row<'b>(one: &'b FlavourUse<'_>, systems: &'b [Mention<'_>]) -> FlavoursRow<'b>
-    ensures { (table : List Mount) → all_mentioned systems.now ≡ spec.systems_of table (use_value one.now)
-        → row_value result ≡ spec.row_of table (use_value one.now) }
+    ensures { row_value result ≡ spec.row_with (use_value one.now) (all_mentioned systems.now) }
 {
     FlavoursRow {
         flavours: flavours_of(one),

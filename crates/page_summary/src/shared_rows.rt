@@ -7,6 +7,7 @@ ghost use Rattle.std.specs.Str.{bytes_eq};
 ghost use Rattle.std.specs.String.{string_bytes};
 ghost use Rattle.page_html.specs.Items.{Code};
 ghost use Rattle.page_html.specs.Parts.{item_of};
+ghost use Rattle.page_summary.specs.Findings.{row_value};
 ghost use Rattle.page_summary.specs.PrivateSharedRows.{ArePlaced, is_told, with_line, with_line_at};
 ghost use Rattle.page_summary.specs.SharedRows as spec;
 ghost use Rattle.page_summary.specs.SharedRows.{AreSharedRows, told};
@@ -114,7 +115,7 @@ fn told_text(alloc: Global, line: &FindingRow<'_>) -> Result<String, AllocError>
 
 /// Gathers the parts of that text.
 fn told_parts<'a>(alloc: Global, line: &FindingRow<'a>) -> Result<Vec<Part<'a>>, AllocError>
-    ensures { IfOk result (λ parts. map item_of parts.items ≡ spec.told_of line.now line.now.told.clients.now) }
+    ensures { IfOk result (λ parts. map item_of parts.items ≡ spec.told_of (row_value line.now) line.now.told.clients.now) }
 {
     match line.told.clients {
         Clients::Hosts(names) => told_of_names(alloc, line, names),
@@ -128,7 +129,7 @@ fn told_of_names<'a>(
     line: &FindingRow<'a>,
     names: &'a Names,
 ) -> Result<Vec<Part<'a>>, AllocError>
-    ensures { IfOk result (λ parts. map item_of parts.items ≡ spec.told_of_names line.now names.now) }
+    ensures { IfOk result (λ parts. map item_of parts.items ≡ spec.told_of_names (row_value line.now) names.now) }
 {
     let mut parts = finding_parts(alloc, &line.told.finding)?;
     let grants = [
@@ -155,7 +156,7 @@ fn push_names<'a>(names: &'a Names, parts: &mut Vec<Part<'a>>) -> Result<(), All
 
 /// Gathers the part of any other line.
 fn place_of<'a>(alloc: Global, line: &FindingRow<'a>) -> Result<Vec<Part<'a>>, AllocError>
-    ensures { IfOk result (λ parts. map item_of parts.items ≡ spec.place_of line.now) }
+    ensures { IfOk result (λ parts. map item_of parts.items ≡ spec.place_of (row_value line.now)) }
 {
     let mut parts = Vec::new(alloc);
     parts.push(Part::LineLink(line.told.finding.fs, line.told.finding.line))?;

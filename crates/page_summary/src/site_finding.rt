@@ -4,7 +4,7 @@ ghost use Rattle.std.specs.Prelude.{◌≡◌, ◌++◌, All, IfOk, OnOk, map};
 ghost use Rattle.page_findings.specs.Deciding.{AreInLineOrder, deciding_value};
 ghost use Rattle.page_findings.specs.Lines.{line_value};
 ghost use Rattle.page_summary.specs.SiteFinding as spec;
-ghost use Rattle.page_summary.specs.SiteFinding.{finding_value};
+ghost use Rattle.page_summary.specs.SiteFinding.{site_finding_value};
 
 use desk_exports::Clients;
 use desk_tables::FsId;
@@ -29,7 +29,7 @@ pub fn site_findings<'a>(
 ) -> Result<Vec<SiteFinding<'a>>, AllocError>
     requires { All AreInLineOrder (map deciding_value deciding.now) }
     ensures { IfOk result (λ found.
-        map finding_value found.items ≡ spec.findings_among (map deciding_value deciding.now) (map line_value lines.now)) }
+        map site_finding_value found.items ≡ spec.findings_among (map deciding_value deciding.now) (map line_value lines.now)) }
 {
     let mut found = Vec::new(alloc);
     for line in lines {
@@ -45,8 +45,8 @@ fn push_finding<'a>(
     deciding: &'a [Deciding],
 ) -> Result<(), AllocError>
     requires { All AreInLineOrder (map deciding_value deciding.now) }
-    ensures { OnOk result (map finding_value found.new.items
-        ≡ map finding_value found.old.items ++ spec.finding_if (map deciding_value deciding.now) (line_value line.now)) }
+    ensures { OnOk result (map site_finding_value found.new.items
+        ≡ map site_finding_value found.old.items ++ spec.finding_if (map deciding_value deciding.now) (line_value line.now)) }
 {
     if line.stands_out() {
         found.push(finding_of(line, deciding))?;
@@ -57,7 +57,7 @@ fn push_finding<'a>(
 /// Gathers what is told of a line that stands out.
 fn finding_of<'a>(line: &SiteLine<'a>, deciding: &'a [Deciding]) -> SiteFinding<'a>
     requires { All AreInLineOrder (map deciding_value deciding.now) }
-    ensures { finding_value result ≡ spec.finding_of (map deciding_value deciding.now) (line_value line.now) }
+    ensures { site_finding_value result ≡ spec.finding_of (map deciding_value deciding.now) (line_value line.now) }
 {
     SiteFinding {
         finding: Finding {

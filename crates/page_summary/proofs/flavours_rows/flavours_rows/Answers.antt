@@ -2,7 +2,7 @@ use Rattle.std.proofs.Common.{◌≡◌, ◌∙◌, ap, map, sym, take_all}
 use Rattle.page_findings.proofs.Mapped.{map_twice}
 use Rattle.page_findings.specs.Flavours.{use_value}
 use Rattle.page_findings.specs.declared.flavours.FlavourUse.{FlavourUse}
-use Rattle.page_summary.specs.FlavoursRows.{all_mentioned, row_of, row_value, systems_of}
+use Rattle.page_summary.specs.FlavoursRows.{all_mentioned, row_of, row_value, row_with, systems_of}
 use Rattle.page_summary.proofs.Valued.{same_at, told_more}
 use Rattle.page_summary.proofs.flavours_rows.flavours_rows.Goals as goal
 
@@ -16,7 +16,7 @@ loop-place-preserved c = λ table same.
     ∙ same_at all_mentioned (λ (other : FlavourUse). systems_of table (use_value other)) c.args.mentions.now uses place c.index-mentions-place.result one
     (same ∙ map_twice use_value (systems_of table) uses) c.loop-place-test.true c.index-mentions-place.is c.index-uses-place.is in
     told_more row_value (λ (other : FlavourUse). row_of table (use_value other)) uses place one c.loop-place.rows.items c.push.new.self.items c.flavours_row.result
-    c.loop-place-test.true c.index-uses-place.is (c.loop-place.invariant table same) c.in_ok-push.ensures.items (c.flavours_row.ensures table systems)
+    c.loop-place-test.true c.index-uses-place.is (c.loop-place.invariant table same) c.in_ok-push.ensures.items (c.flavours_row.ensures ∙ ap (row_with (use_value one)) systems)
 
 pub returns : goal.returns
 returns c = λ table same.

@@ -6,14 +6,14 @@ use Rattle.page_findings.specs.Deciding.{deciding_value}
 use Rattle.page_findings.specs.Lines.{line_value}
 use Rattle.page_findings.specs.declared.lines.SiteLine.{SiteLine}
 use Rattle.page_data.proofs.Gathered.{writes}
-use Rattle.page_summary.specs.SiteFinding.{finding_if, finding_value}
+use Rattle.page_summary.specs.SiteFinding.{finding_if, site_finding_value}
 use Rattle.page_summary.proofs.Standing.{standing_out}
 use Rattle.page_summary.proofs.site_finding.site_findings.Goals as goal
 
 pub loop-line-preserved : goal.loop-line-preserved
 loop-line-preserved c =
     writes c.args.lines.now c.loop-line.line-index c.line-item.result c.loop-line-test.true c.line-item.is (λ line. finding_if (map deciding_value c.args.deciding.now) (line_value line)) []
-    (map finding_value c.loop-line.found.items) (map finding_value c.push_finding.new.found.items) c.loop-line.invariant c.in_ok-push_finding.ensures
+    (map site_finding_value c.loop-line.found.items) (map site_finding_value c.push_finding.new.found.items) c.loop-line.invariant c.in_ok-push_finding.ensures
 
 pub returns : goal.returns
 returns c =
