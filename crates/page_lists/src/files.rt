@@ -104,7 +104,11 @@ fn newest_digest(alloc: Global, newest: Option<&Head>) -> Result<String, AllocEr
 }
 
 /// Adds the files, in the order given.
-pub fn push_files(alloc: Global, rows: &[FileRow<'_>], page: &mut String) -> Result<(), AllocError>
+pub fn push_files<'a>(
+    alloc: Global,
+    rows: &'a [FileRow<'a>],
+    page: &mut String,
+) -> Result<(), AllocError>
     ensures { OnOk result (string_bytes page.new ≡ string_bytes page.old ++ spec.files rows.now) }
 {
     let count = rows.len() as u64;
@@ -123,7 +127,11 @@ pub fn push_files(alloc: Global, rows: &[FileRow<'_>], page: &mut String) -> Res
 
 /// Adds rows.
 #[tactic(auto, unfolding(page_html::specs::Tables::rows_html))]
-fn push_rows(alloc: Global, rows: &[FileRow<'_>], page: &mut String) -> Result<(), AllocError>
+fn push_rows<'a>(
+    alloc: Global,
+    rows: &'a [FileRow<'a>],
+    page: &mut String,
+) -> Result<(), AllocError>
     ensures { OnOk result (string_bytes page.new ≡ string_bytes page.old ++ rows_html spec.frame (map (λ row. spec.cells (spec.row_value row)) rows.now)) }
 {
     for row in rows {
@@ -133,7 +141,7 @@ fn push_rows(alloc: Global, rows: &[FileRow<'_>], page: &mut String) -> Result<(
 }
 
 /// Adds a row.
-fn push_file(alloc: Global, row: &FileRow<'_>, page: &mut String) -> Result<(), AllocError>
+fn push_file<'a>(alloc: Global, row: &'a FileRow<'a>, page: &mut String) -> Result<(), AllocError>
     ensures { OnOk result (string_bytes page.new ≡ string_bytes page.old ++ row_html spec.frame (spec.cells (spec.row_value row.now))) }
 {
     let newest = row.file.newest;
@@ -141,7 +149,7 @@ fn push_file(alloc: Global, row: &FileRow<'_>, page: &mut String) -> Result<(), 
     push_row(
         alloc,
         &FILES,
-        &page_html::eight_cells(
+        &[
             &[Part::Code(row.file.name())],
             &[revision_of(newest)],
             &[author_of(newest)],
@@ -150,7 +158,7 @@ fn push_file(alloc: Global, row: &FileRow<'_>, page: &mut String) -> Result<(), 
             &[size_of(newest)],
             &[if_revised(newest, Part::Digest(row.digest.as_str()))],
             &remark,
-        ),
+        ],
         page,
     )
 }
