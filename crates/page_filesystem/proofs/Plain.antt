@@ -5,7 +5,6 @@ use Rattle.desk_core.specs.declared.head.Head.{Head}
 use Rattle.desk_exports.specs.Profile.{profile_number}
 use Rattle.desk_exports.specs.declared.profile.Profile.{Profile}
 use Rattle.page_data.specs.Counts.{granted_of}
-use Rattle.page_data.specs.Reasons.{level_of_all}
 use Rattle.page_data.specs.declared.counts.Counts.{Counts}
 use Rattle.page_filesystem.specs.Facts as facts
 use Rattle.page_filesystem.specs.Findings.{entry_items}
@@ -13,6 +12,7 @@ use Rattle.page_filesystem.specs.Gutter as gutter
 use Rattle.page_filesystem.specs.Proposals as proposals
 use Rattle.page_filesystem.specs.Shares as shares
 use Rattle.page_filesystem.specs.Texts as texts
+use Rattle.page_filesystem.specs.Texts.{TextLine}
 use Rattle.page_filesystem.specs.declared.gutter.Note.{Note}
 use Rattle.page_filesystem.specs.declared.gutter.Said.{Said as LineSaid}
 use Rattle.page_filesystem.specs.declared.gutter.Said.TheVariants.{Grants, MatchesNobody, NeverDecides}
@@ -21,8 +21,8 @@ use Rattle.page_filesystem.specs.declared.parts.FileSystemPart.{FileSystemPart}
 use Rattle.page_filesystem.specs.declared.shares.Share.{Share}
 use Rattle.page_filesystem.specs.declared.shares.Space.{Space}
 use Rattle.page_filesystem.specs.declared.shares.Space.TheVariants as spaces
+use Rattle.page_findings.specs.FindingWords.{FindingValue}
 use Rattle.page_findings.specs.declared.badges.Measure.TheVariants.{Share as Shared}
-use Rattle.page_findings.specs.declared.finding_words.Finding.{Finding}
 use Rattle.page_html.specs.Items.{Nothing, Number, Own, Words, Zero}
 use Rattle.page_html.proofs.Plain.{ArePlain, ArePlainCells, IsPlain, cells_cons, part, parts, plain_append, plain_cons, plain_if, some_cells}
 use Rattle.page_findings.proofs.Plain.{badge_plain, finding_plain, level_plain, measured_plain}
@@ -51,8 +51,8 @@ fact_plain part =
     cells_cons (revision_plain (option_copied part.head)) (record { are = last.are })
 
 -- ---- lines that stand out
-pub entry_plain : (finding : Finding) → ArePlain (entry_items finding)
-entry_plain finding = plain_cons (level_plain (level_of_all finding.reasons.now)) (record { are = (finding_plain finding).are })
+pub entry_plain : (finding : FindingValue) → ArePlain (entry_items finding)
+entry_plain finding = plain_cons (level_plain finding.level) (record { are = (finding_plain finding).are })
 
 -- ---- proposals
 pub proposed_as_plain : (author : List ℕ) (revision : ℕ) (guarded : Bool) → ArePlain (proposals.proposed_as author revision guarded)
@@ -79,15 +79,19 @@ granted_plain (Grants class for_everybody count) = record { is = refl }
 granted_plain MatchesNobody = record { is = refl }
 granted_plain NeverDecides = record { is = refl }
 
-noted_plain : (number line_number : ℕ) (told : Option Told) (line : List ℕ) → ArePlainCells (texts.text_cells number (Some (record { line = line_number; told = told })) line)
-noted_plain number line_number None line = record { are = refl }
-noted_plain number line_number (Some told) line =
+-- of a line with a note only the cells that are made by a case of what it does are proved, the others are computed
+noted_plain : (line : TextLine) (note : Note) (told : Option Told) → ArePlainCells (texts.text_cells (record line { note = Some (record note { told = told }) }))
+noted_plain line note None = record { are = refl }
+noted_plain line note (Some told) =
     let count = cells_cons (plain_cons (granted_plain told.said) (parts [] refl)) (some_cells [] refl) in
     record { are = (cells_cons (does_plain told.said) count).are }
 
-pub text_plain : (number : ℕ) (note : Option Note) (line : List ℕ) → ArePlainCells (texts.text_cells number note line)
-text_plain number None line = record { are = refl }
-text_plain number (Some note) line = noted_plain number note.line note.told line
+line_plain : (line : TextLine) (note : Option Note) → ArePlainCells (texts.text_cells (record line { note = note }))
+line_plain line None = record { are = refl }
+line_plain line (Some note) = noted_plain line note note.told
+
+pub text_plain : (line : TextLine) → ArePlainCells (texts.text_cells line)
+text_plain line = line_plain line line.note
 
 -- ---- where its clients are
 space_plain : (space : Space) → IsPlain (shares.space_item space)

@@ -6,21 +6,20 @@ use Rattle.page_html.specs.Items.{Item, LineLink, Own, Words}
 use Rattle.page_html.specs.declared.blocks.Element.TheVariants.{Entry}
 use Rattle.page_html.specs.declared.blocks.Tag.TheVariants.{FindingsStart, ListEnd}
 use Rattle.page_findings.specs.Badges.{level_item}
-use Rattle.page_findings.specs.FindingWords.{finding_items}
+use Rattle.page_findings.specs.FindingWords.{FindingValue, finding_items, finding_value}
 use Rattle.page_findings.specs.declared.finding_words.Finding.{Finding}
-use Rattle.page_data.specs.Reasons.{level_of_all}
 
 -- the entry of a line: its level, a link to it, and why it stands out
-abbrev pub entry_items : Finding → List (Item (List ℕ))
+abbrev pub entry_items : FindingValue → List (Item (List ℕ))
 entry_items finding =
-    level_item (level_of_all finding.reasons.now) ∷ Own (Words (codes " ")) ∷ Own (LineLink finding.fs.0 finding.line) ∷ Own (Words (codes ": "))
+    level_item finding.level ∷ Own (Words (codes " ")) ∷ Own (LineLink finding.fs finding.line) ∷ Own (Words (codes ": "))
     ∷ finding_items finding
 
-abbrev pub entry : Finding → List ℕ
+abbrev pub entry : FindingValue → List ℕ
 entry finding = element_html Entry (entry_items finding)
 
 unfoldable pub entries : List Finding → List ℕ
-entries findings = flat_map entry findings
+entries findings = flat_map (λ finding. entry (finding_value finding)) findings
 
 -- The lines that stand out, if there are any.
 abbrev pub findings_list : List Finding → List ℕ

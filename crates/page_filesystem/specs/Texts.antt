@@ -3,30 +3,41 @@ use Rattle.std.specs.Prelude.{ℕ, ◌+◌, ◌==◌, false, List, [], ◌∷◌
 use Rattle.std.specs.Str.Lines.{lines}
 use Rattle.page_html.specs.Blocks.{element_html, tag_html}
 use Rattle.page_html.specs.Items.{Digits, Item, Line, Own, Plural, Words}
-use Rattle.page_html.specs.Tables.{Count, Frame, Name, Plain, line_row_html, table_start}
+use Rattle.page_html.specs.Tables.{Count, Frame, Name, Plain, Told, cells_of, columns_of, line_row_html, table_start}
 use Rattle.page_html.specs.Titles.{Named, Said}
 use Rattle.page_html.specs.declared.blocks.Element.TheVariants.{Fold, Paragraph}
 use Rattle.page_html.specs.declared.blocks.Tag.TheVariants.{FoldEnd, TableEnd}
 use Rattle.page_filesystem.specs.Gutter.{count_item, note_on, said_items, stands_out, told_of}
 use Rattle.page_filesystem.specs.declared.gutter.Note.{Note}
 
--- the table
+-- a physical line by value: its number, the note on it, if there is one, and the text of the line
+pub record TextLine : Type 0 where
+  pub number : ℕ
+  pub note : Option Note
+  pub text : List ℕ
+
+-- the table: the number of a line, what it does, to how many addresses, and the line itself
+abbrev pub told : List (Told TextLine)
+told =
+    (Name (codes "Line"), (λ line. Own (Digits line.number) ∷ []))
+    ∷ (Plain (codes "It grants"), (λ line. said_items line.note))
+    ∷ (Count (codes "to addresses"), (λ line. count_item (told_of line.note) ∷ []))
+    ∷ (Plain (codes "Text"), (λ line. Line line.text ∷ []))
+    ∷ []
+
 abbrev pub frame : Frame
-frame = record {
-  class = codes "text";
-  is_titled = false;
-  columns = Name (codes "Line") ∷ Plain (codes "It grants") ∷ Count (codes "to addresses") ∷ Plain (codes "Text") ∷ [];
-}
+frame = record { class = codes "text"; is_titled = false; columns = columns_of told }
 
--- the row of a physical line, given the note on it: its number, what it does, to how many addresses, and the line itself
-abbrev pub text_cells : ℕ → Option Note → List ℕ → List (List (Item (List ℕ)))
-text_cells number note line = (Own (Digits number) ∷ []) ∷ said_items note ∷ (count_item (told_of note) ∷ []) ∷ (Line line ∷ []) ∷ []
+abbrev pub text_cells : TextLine → List (List (Item (List ℕ)))
+text_cells line = cells_of told line
 
-abbrev pub text_row_with : ℕ → ℕ → Option Note → List ℕ → List ℕ
-text_row_with fs number note line = line_row_html fs number (stands_out (told_of note)) frame (text_cells number note line)
+-- the row of a physical line, which links lead to, and which stands out if its note says so
+abbrev pub line_row : ℕ → TextLine → List ℕ
+line_row fs line = line_row_html fs line.number (stands_out (told_of line.note)) frame (text_cells line)
 
+-- the same, given the notes on a text
 abbrev pub text_row : ℕ → List Note → ℕ → List ℕ → List ℕ
-text_row fs notes number line = text_row_with fs number (note_on notes number) line
+text_row fs notes number text = line_row fs (record { number = number; note = note_on notes number; text = text })
 
 -- the rows of physical lines, before which there are so many
 abbrev pub text_rows : ℕ → List Note → ℕ → List (List ℕ) → List ℕ

@@ -1,12 +1,11 @@
 -- What is told of a file system is told in one way: it goes by the values of what it is made of. (this project's own)
-use Rattle.std.specs.Prelude.{◌≡◌, ℕ, Bool, List, Option, Some, None, map}
+use Rattle.std.specs.Prelude.{◌≡◌, ℕ, List, Option, Some, None, map}
 use Rattle.std.specs.Option.{option_copied}
-use Rattle.desk_exports.specs.declared.entry.Terms.{Terms}
 use Rattle.desk_policy.specs.declared.row.Row.{Row}
 use Rattle.desk_who.specs.Runs.{Run}
-use Rattle.page_data.specs.ReasonValues.{ReasonValue, reason_value}
 use Rattle.page_data.specs.Values.{AreRunsOfSome}
 use Rattle.page_data.specs.declared.class.Class.{Class}
+use Rattle.page_findings.specs.FindingWords.{finding_value}
 use Rattle.page_findings.specs.Lines.{LineValue}
 use Rattle.page_findings.specs.UniqueLaws.{AreAlike}
 use Rattle.page_findings.specs.declared.finding_words.Finding.{Finding}
@@ -21,25 +20,6 @@ use Rattle.page_filesystem.specs.declared.counted_shares.Shares.{Shares}
 use Rattle.page_filesystem.specs.declared.own_parts.FileSystemData.{FileSystemData}
 use Rattle.page_filesystem.specs.declared.parts.FileSystemPart.{FileSystemPart}
 use Rattle.page_filesystem.specs.declared.parts.ProposalPart.{ProposalPart}
-
--- a line that stands out, by value: what is lent may be kept anywhere
-pub record KnownFinding : Type 0 where
-  pub fs : ℕ
-  pub line : ℕ
-  pub reasons : List ReasonValue
-  pub terms : Terms
-  pub is_for_network : Bool
-  pub deciding : List ℕ
-
-abbrev pub known_finding : Finding → KnownFinding
-known_finding finding = record {
-  fs = finding.fs.0;
-  line = finding.line;
-  reasons = map reason_value finding.reasons.now;
-  terms = finding.terms.now;
-  is_for_network = finding.is_for_network;
-  deciding = finding.deciding.now;
-}
 
 -- of two proposals the same is told
 pub record AreProposalsAlike (proposal other : ProposalPart) : Type 0 where
@@ -62,7 +42,7 @@ pub record AreGivenAlike (given other : FileSystemData) : Type 0 where
   pub classes : runs_in given ≡ runs_in other
   pub lines : AreAlike (own_lines given) (own_lines other)
   pub head : option_copied given.head ≡ option_copied other.head
-  pub findings : map known_finding given.findings.now ≡ map known_finding other.findings.now
+  pub findings : map finding_value given.findings.now ≡ map finding_value other.findings.now
   pub proposal : AreAlikeIfAny given.proposal other.proposal
   pub maps : given.maps.now ≡ other.maps.now
   pub groups : (fs : ℕ) → groups_text fs given.groups.now ≡ groups_text fs other.groups.now
@@ -76,6 +56,6 @@ pub record FileSystemsAreToldInOneWay : Type 0 where
   pub shares : (runs : List (Run Class)) (rows : List Row) (made other : Shares) → AreRunsOfSome runs → AreShares runs rows made → AreShares runs rows other
       → made ≡ other
   pub notes : (lines others : List LineValue) (text : List ℕ) → AreAlike lines others → notes_of lines text ≡ notes_of others text
-  pub findings : (findings others : List Finding) → map known_finding findings ≡ map known_finding others → findings_list findings ≡ findings_list others
+  pub findings : (findings others : List Finding) → map finding_value findings ≡ map finding_value others → findings_list findings ≡ findings_list others
   pub parts : (given other : FileSystemData) (part second : FileSystemPart) → AreRunsOfSome (runs_in given) → AreGivenAlike given other → IsPartOf given part
       → IsPartOf other second → file_system part ≡ file_system second

@@ -14,7 +14,7 @@ use crate::shares::{Share, Space};
 use desk_policy::Row;
 use desk_text::{Addr, Net, Prefix, Sequence};
 use desk_who::Run;
-use page_data::{Class, Counts};
+use page_data::Class;
 use page_maps::written_networks;
 use std::alloc::{AllocError, Global};
 
@@ -99,7 +99,10 @@ fn whole_share(classes: &[Run<Class>]) -> Share
     ensures share { IsShareFrom (map class_run classes.now) result }
     ensures size { HasSize result }
 {
-    share_of(Space::All, all_counts(classes))
+    Share {
+        space: Space::All,
+        counts: all_counts(classes),
+    }
 }
 
 /// Returns that of the addresses outside the private networks.
@@ -109,7 +112,10 @@ fn outside_share(classes: &[Run<Class>]) -> Share
     ensures share { IsShareFrom (map class_run classes.now) result }
     ensures size { HasSize result }
 {
-    share_of(Space::OutsidePrivate, counts_outside(classes))
+    Share {
+        space: Space::OutsidePrivate,
+        counts: counts_outside(classes),
+    }
 }
 
 /// Returns that of a network.
@@ -121,17 +127,10 @@ fn network_share(classes: &[Run<Class>], network: Net) -> Share
 {
     let first = network.first();
     let last = network.last();
-    share_of(
-        Space::Network(first, network.prefix().get()),
-        counts_between(classes, first.number(), last.number()),
-    )
-}
-
-/// Makes the share of some addresses.
-fn share_of(space: Space, counts: Counts) -> Share
-    ensures { result ≡ record { space = space; counts = counts } }
-{
-    Share { space, counts }
+    Share {
+        space: Space::Network(first, network.prefix().get()),
+        counts: counts_between(classes, first.number(), last.number()),
+    }
 }
 
 /// Returns the private networks (RFC 1918).

@@ -2,6 +2,7 @@
 
 ghost use Rattle.std.specs.Prelude.{◌≡◌, ◌++◌, IfOk, OnOk, map};
 ghost use Rattle.std.specs.String.{string_bytes};
+ghost use Rattle.page_findings.specs.FindingWords.{finding_value};
 ghost use Rattle.page_html.specs.Parts.{item_of};
 ghost use Rattle.page_filesystem.specs.Findings as spec;
 
@@ -42,7 +43,7 @@ fn push_entries(
 
 /// Adds the entry of a line.
 fn push_entry(alloc: Global, finding: &Finding<'_>, page: &mut String) -> Result<(), AllocError>
-    ensures { OnOk result (string_bytes page.new ≡ string_bytes page.old ++ spec.entry finding.now) }
+    ensures { OnOk result (string_bytes page.new ≡ string_bytes page.old ++ spec.entry (finding_value finding.now)) }
 {
     let parts = entry_parts(alloc, finding)?;
     push_element(alloc, Element::Entry, parts.as_slice(), page)
@@ -50,7 +51,7 @@ fn push_entry(alloc: Global, finding: &Finding<'_>, page: &mut String) -> Result
 
 /// Gathers the level of a line, a link to it, and why it stands out.
 fn entry_parts<'a>(alloc: Global, finding: &Finding<'a>) -> Result<Vec<Part<'a>>, AllocError>
-    ensures { IfOk result (λ parts. map item_of parts.items ≡ spec.entry_items finding.now) }
+    ensures { IfOk result (λ parts. map item_of parts.items ≡ spec.entry_items (finding_value finding.now)) }
 {
     let words = finding_parts(alloc, finding)?;
     let start = [

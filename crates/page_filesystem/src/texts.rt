@@ -171,7 +171,7 @@ fn push_text_row(
     line: &str,
     page: &mut String,
 ) -> Result<(), AllocError>
-    ensures { OnOk result (string_bytes page.new ≡ string_bytes page.old ++ spec.text_row_with fs.0 number note line.now) }
+    ensures { OnOk result (string_bytes page.new ≡ string_bytes page.old ++ spec.line_row fs.0 (record { number = number; note = note; text = line.now })) }
 {
     let told = told_of(note);
     let said = said_parts(note);

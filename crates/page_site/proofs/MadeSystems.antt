@@ -17,6 +17,7 @@ use Rattle.page_filesystem.specs.declared.outcomes.Outcome.TheVariants.{Changes,
 use Rattle.page_filesystem.specs.declared.parts.FileSystemPart.{FileSystemPart}
 use Rattle.page_filesystem.specs.declared.parts.ProposalPart.{ProposalPart}
 use Rattle.page_filesystem.specs.declared.shares.Share.{Share}
+use Rattle.page_findings.specs.FindingWords.{finding_value}
 use Rattle.page_findings.specs.declared.finding_words.Finding.{Finding}
 use Rattle.page_html.specs.Items.{Code, Own, Words}
 use Rattle.page_html.specs.Pages.{LineRow, MarkedRow}
@@ -35,12 +36,12 @@ subheading_made words = element_made element.Subheading (Own (Words words) ∷ [
 
 -- ---- facts
 -- ---- lines that stand out
-finding_entry_made : (finding : Finding) → IsMadeOfBlocks (entry finding)
-finding_entry_made finding = element_made element.Entry (entry_items finding) (entry_plain finding)
+finding_entry_made : (finding : Finding) → IsMadeOfBlocks (entry (finding_value finding))
+finding_entry_made finding = element_made element.Entry (entry_items (finding_value finding)) (entry_plain (finding_value finding))
 
 entries_made : (findings : List Finding) → IsMadeOfBlocks (entries findings)
 unfolding entries
-entries_made findings = each_made entry finding_entry_made findings
+entries_made findings = each_made (λ (finding : Finding). entry (finding_value finding)) finding_entry_made findings
 
 findings_list_made : (findings : List Finding) → IsMadeOfBlocks (findings_list findings)
 findings_list_made findings =
@@ -93,14 +94,16 @@ head_part_made part =
     (proposal_part_made part part.proposal)
 
 -- ---- the text in force
-text_row_made : (fs number : ℕ) (note : Option Note) (line : List ℕ) → IsMadeOfBlocks (texts.text_row_with fs number note line)
-text_row_made fs number note line =
-    block_made (LineRow fs number (gutter.stands_out (gutter.told_of note)) texts.frame (texts.text_cells number note line)) (cells_alone IsPicture _ (text_plain number note line).are)
+text_row_made : (fs : ℕ) (line : texts.TextLine) → IsMadeOfBlocks (texts.line_row fs line)
+text_row_made fs line =
+    block_made (LineRow fs line.number (gutter.stands_out (gutter.told_of line.note)) texts.frame (texts.text_cells line))
+    (cells_alone IsPicture _ (text_plain line).are)
 
 text_rows_made : (fs : ℕ) (notes : List Note) (before : ℕ) (given : List (List ℕ)) → IsMadeOfBlocks (texts.text_rows fs notes before given)
 text_rows_made fs notes before [] = nothing_made
 text_rows_made fs notes before (line ∷ others) =
-    append_made (text_row_made fs (before + 1) (gutter.note_on notes (before + 1)) line) (text_rows_made fs notes (before + 1) others)
+    append_made (text_row_made fs (record { number = before + 1; note = gutter.note_on notes (before + 1); text = line }))
+    (text_rows_made fs notes (before + 1) others)
 
 lines_made : (fs : ℕ) (name : List ℕ) (notes : List Note) (text : List ℕ) → IsMadeOfBlocks (texts.lines_table fs name notes text)
 lines_made fs name notes text =

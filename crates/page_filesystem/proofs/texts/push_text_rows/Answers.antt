@@ -5,7 +5,7 @@ use Rattle.std.proofs.lemmas.List.{length_push}
 use Rattle.std.specs.Str.Iter.{lines_rest}
 use Rattle.std.specs.Str.Lines.{lines}
 use Rattle.std.specs.String.{string_bytes}
-use Rattle.page_filesystem.specs.Texts.{text_row_with, text_rows}
+use Rattle.page_filesystem.specs.Texts.{line_row, text_rows}
 use Rattle.page_filesystem.proofs.Lined.{rows_more}
 use Rattle.page_filesystem.proofs.texts.push_text_rows.Goals as goal
 
@@ -18,8 +18,9 @@ loop-line-preserved c =
     let turn : (k < length (lines text)) × (c.in-Some.line.now ≡ get_or (lines text) k c.in-Some.line.now) =
     YieldsList-turn (YieldsList-from_lines {s = c.into_iter-line-iterator.result} text (ap lines_rest same ∙ c.lines-line-items.ensures.rest))
     c.loop-line.yielded _ c.loop-line.yielded_by _ _ c.in-Some.line c.in-Some.is c.next.ensures.steps in
-    let added = c.in_ok-push_text_row.ensures ∙ ap (λ note. string_bytes c.loop-line.page ++ text_row_with fs (c.loop-line.number + 1) note
-    c.in-Some.line.now) (c.note_on.ensures c.requires.ascending) in
+    let added = c.in_ok-push_text_row.ensures
+    ∙ ap (λ note. string_bytes c.loop-line.page ++ line_row fs (record { number = c.loop-line.number + 1; note = note; text = c.in-Some.line.now }))
+    (c.note_on.ensures c.requires.ascending) in
     rw length_push (record {
       counted = ap (λ n. n + 1) c.loop-line.invariant.counted;
       added = rows_more fs c.args.notes.now (lines text) k c.loop-line.number c.in-Some.line.now (string_bytes c.args.page.now)
