@@ -56,7 +56,7 @@ proposal_start_made author revision guarded =
 proposed_row_made : (in_force : List (List ℕ)) (number : ℕ) (line : List ℕ) → IsMadeOfBlocks (proposals.proposed_row in_force number line)
 proposed_row_made in_force number line =
     block_made (MarkedRow (not (proposals.is_among in_force line)) proposals.frame (proposals.proposed_cells in_force number line))
-    (cells_alone IsPicture _ (proposed_plain in_force number line).are)
+    (cells_alone IsPicture (proposals.proposed_cells in_force number line) (proposed_plain in_force number line).are)
 
 proposed_rows_made : (in_force : List (List ℕ)) (before : ℕ) (given : List (List ℕ)) → IsMadeOfBlocks (proposals.proposed_rows in_force before given)
 proposed_rows_made in_force before [] = nothing_made
@@ -97,7 +97,7 @@ head_part_made part =
 text_row_made : (fs : ℕ) (line : texts.TextLine) → IsMadeOfBlocks (texts.line_row fs line)
 text_row_made fs line =
     block_made (LineRow fs line.number (gutter.stands_out (gutter.told_of line.note)) texts.frame (texts.text_cells line))
-    (cells_alone IsPicture _ (text_plain line).are)
+    (cells_alone IsPicture (texts.text_cells line) (text_plain line).are)
 
 text_rows_made : (fs : ℕ) (notes : List Note) (before : ℕ) (given : List (List ℕ)) → IsMadeOfBlocks (texts.text_rows fs notes before given)
 text_rows_made fs notes before [] = nothing_made
