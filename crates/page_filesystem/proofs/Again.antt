@@ -1,5 +1,5 @@
 -- Of lines, and of those that stand out, what is told goes by their values.
-use Rattle.std.proofs.Common.{◌≡◌, ℕ, ◌==◌, ◌++◌, ◌∙◌, Bool, true, false, cond, List, [], ◌∷◌, Option, Some, ap, length, map, option_map, refl, sym}
+use Rattle.std.proofs.Common.{◌≡◌, ℕ, ◌==◌, ◌++◌, ◌∙◌, Bool, true, false, cond, List, [], ◌∷◌, Some, ap, length, map, option_map, refl, sym}
 use Rattle.std.specs.Prelude.{if◌then◌else◌, not}
 use Rattle.std.specs.List.{filter_map, flat_map}
 use Rattle.std.proofs.lemmas.List.{length-map}
@@ -10,8 +10,8 @@ use Rattle.page_data.specs.ReasonValues.{reason_value}
 use Rattle.page_data.specs.declared.reasons.Reason.{Reason}
 use Rattle.page_data.proofs.UniqueReasons.{by_kept, reason_kept}
 use Rattle.page_findings.specs.FindingWords.{FindingValue, finding_value}
-use Rattle.page_findings.specs.Lines.{LineValue}
-use Rattle.page_findings.specs.UniqueLaws.{AreAlike, KnownLine, known_line}
+use Rattle.page_findings.specs.Lines.{KnownLine, LineValue, known_line}
+use Rattle.page_findings.specs.UniqueLaws.{AreAlike}
 use Rattle.page_findings.specs.declared.finding_words.Finding.{Finding}
 use Rattle.page_html.specs.Blocks.{tag_html}
 use Rattle.page_html.specs.declared.blocks.Tag.TheVariants.{FindingsStart, ListEnd}

@@ -15,8 +15,8 @@ use Rattle.page_findings.specs.Deciding.{is_never, never_decides}
 use Rattle.page_findings.specs.Figures.{directories_of}
 use Rattle.page_findings.specs.Findings.{stands_out}
 use Rattle.page_findings.specs.Flavours.{UseValue, each_once, lines_with, same_flavours, same_number, use_of, uses_among}
-use Rattle.page_findings.specs.Lines.{LineValue, flavours_of, grants, is_read_write}
-use Rattle.page_findings.specs.UniqueLaws.{AreAlike, KnownLine, known_line, known_reasons}
+use Rattle.page_findings.specs.Lines.{KnownLine, LineValue, flavours_of, grants, is_read_write, known_line}
+use Rattle.page_findings.specs.UniqueLaws.{AreAlike, known_reasons}
 use Rattle.page_findings.proofs.Mapped.{count_mapped, filter_mapped, map_twice}
 
 -- ---- reasons

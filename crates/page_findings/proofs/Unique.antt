@@ -25,8 +25,8 @@ use Rattle.page_findings.specs.Figures.{HasDirectories, directories_of}
 use Rattle.page_findings.specs.Findings as by_level
 use Rattle.page_findings.specs.Findings.{AreFindings, level_rank, stands_out}
 use Rattle.page_findings.specs.Flavours.{AreFlavoursInUse, UseValue, each_once, order_of, rank_at, same_flavours, use_of, uses_among, word_rank}
-use Rattle.page_findings.specs.Lines.{AreLinesOfSite, AreReasonsOfSite, IsLineOf, LineValue, PlacedRow, flavours_of, grants, placed, placed_in, rows_in}
-use Rattle.page_findings.specs.UniqueLaws.{AllHaveLikeReasons, AreAlike, HasFewFlavours, KnownLine, LinesAreToldInOneWay, known_line, known_reasons}
+use Rattle.page_findings.specs.Lines.{AreLinesOfSite, AreReasonsOfSite, IsLineOf, KnownLine, LineValue, PlacedRow, flavours_of, grants, known_line, placed, placed_in, rows_in}
+use Rattle.page_findings.specs.UniqueLaws.{AllHaveLikeReasons, AreAlike, HasFewFlavours, LinesAreToldInOneWay, known_reasons}
 use Rattle.page_findings.proofs.Alike.{directories_alike, first_among, known_standing, level_of_known, never_by, never_lines, stands_by, uses_alike}
 use Rattle.page_findings.proofs.Mapped.{sorted_mapped}
 use Rattle.page_findings.proofs.OneSorting.{one_sorting, same_values}

@@ -19,7 +19,7 @@ use Rattle.page_findings.specs.Joining.{comma, joined}
 use Rattle.page_findings.specs.declared.finding_words.Finding.{Finding}
 
 -- a line that stands out by value: its file system, its number, its level, its reasons, and what their words tell: its terms, whether it
--- writes a network that does not have every address, and the lines that decide in its place
+-- writes a network of IPv4 that does not have every address, and the lines that decide in its place
 pub record FindingValue : Type 0 where
   pub fs : ℕ
   pub line : ℕ

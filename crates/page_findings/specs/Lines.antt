@@ -6,6 +6,7 @@ use Rattle.desk_policy.specs.Policy.{Content, rows_of}
 use Rattle.desk_policy.specs.declared.row.Row.{Row}
 use Rattle.page_data.specs.Grants.{GrantsTo, HoldsOf}
 use Rattle.page_data.specs.Lines.{AreLineReasons, IsToldOf}
+use Rattle.page_data.specs.ReasonValues.{ReasonValue, reason_value}
 use Rattle.page_data.specs.declared.lines.LineReasons.{LineReasons}
 use Rattle.page_data.specs.declared.reasons.Reason.{Reason}
 use Rattle.page_findings.specs.declared.lines.SiteLine.{SiteLine}
@@ -19,6 +20,16 @@ pub record LineValue : Type 0 where
 
 abbrev pub line_value : SiteLine → LineValue
 line_value line = record { fs = line.fs.0; row = line.row.now; count = line.count; reasons = line.reasons.now }
+
+-- a line by value: what its reasons lend may be kept anywhere
+pub record KnownLine : Type 0 where
+  pub fs : ℕ
+  pub row : Row
+  pub count : ℕ
+  pub reasons : List ReasonValue
+
+abbrev pub known_line : LineValue → KnownLine
+known_line line = record { fs = line.fs; row = line.row; count = line.count; reasons = map reason_value line.reasons }
 
 -- a line and its file system
 pub record PlacedRow : Type 0 where

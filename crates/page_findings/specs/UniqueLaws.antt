@@ -3,25 +3,14 @@ use Rattle.std.specs.Prelude.{◌≡◌, ℕ, ◌≤◌, All, List, Ok, length, 
 use Rattle.desk_policy.specs.Parsing.{read_site}
 use Rattle.desk_policy.specs.Policy.{Content}
 use Rattle.desk_policy.specs.Site.{SiteTexts}
-use Rattle.desk_policy.specs.declared.row.Row.{Row}
 use Rattle.page_data.specs.Laws.{IsSound, IsSoundSite}
-use Rattle.page_data.specs.ReasonValues.{ReasonValue, ReasonsValue, reason_value, reasons_value}
+use Rattle.page_data.specs.ReasonValues.{ReasonsValue, reasons_value}
 use Rattle.page_data.specs.declared.lines.LineReasons.{LineReasons}
 use Rattle.page_findings.specs.Deciding.{AreDecidedFor, DecidedFor}
 use Rattle.page_findings.specs.Figures.{HasDirectories}
 use Rattle.page_findings.specs.Findings.{AreFindings}
 use Rattle.page_findings.specs.Flavours.{AreFlavoursInUse, UseValue}
-use Rattle.page_findings.specs.Lines.{AreLinesOfSite, AreReasonsOfSite, LineValue, flavours_of}
-
--- a line by value: what its reasons lend may be kept anywhere
-pub record KnownLine : Type 0 where
-  pub fs : ℕ
-  pub row : Row
-  pub count : ℕ
-  pub reasons : List ReasonValue
-
-abbrev pub known_line : LineValue → KnownLine
-known_line line = record { fs = line.fs; row = line.row; count = line.count; reasons = map reason_value line.reasons }
+use Rattle.page_findings.specs.Lines.{AreLinesOfSite, AreReasonsOfSite, LineValue, flavours_of, known_line}
 
 -- the same lines by value
 abbrev pub AreAlike : List LineValue → List LineValue → Type 0

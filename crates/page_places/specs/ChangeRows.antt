@@ -1,6 +1,5 @@
 -- What a proposal would change, and for whom. (this project's own)
 use Rattle.std.specs.Prelude.{ℕ, ◌==◌, true, List, [], ◌∷◌, ◌++◌, Result, Ok, Err, codes, length, map, nat_le, if◌then◌else◌}
-use Rattle.page_html.specs.Ranges.{between}
 use Rattle.desk_policy.specs.Verdict.{Grant}
 use Rattle.desk_policy.specs.declared.verdict.Denial.{Denial}
 use Rattle.desk_who.specs.Runs.{Run}
@@ -13,6 +12,7 @@ use Rattle.page_html.specs.Titles.{Said}
 use Rattle.page_html.specs.declared.blocks.Element.TheVariants.{Fold, Paragraph}
 use Rattle.page_html.specs.declared.blocks.Tag.TheVariants.{FoldEnd, TableEnd}
 use Rattle.page_html.specs.declared.ranges.Span.{Span}
+use Rattle.page_html.specs.Ranges.{between}
 use Rattle.page_findings.specs.Badges.{badge_item}
 use Rattle.page_places.specs.Changes.{PlaceChange, row_value}
 use Rattle.page_places.specs.Names.{place_item}

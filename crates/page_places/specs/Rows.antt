@@ -1,6 +1,5 @@
 -- The rows of a table of verdicts. (this project's own)
 use Rattle.std.specs.Prelude.{ℕ, ◌+◌, ◌-◌, ◌^◌, false, List, [], ◌∷◌, Result, Ok, Err, codes, map, sum_by}
-use Rattle.page_html.specs.Ranges.{between}
 use Rattle.desk_text.specs.Address.{number_of}
 use Rattle.desk_policy.specs.Verdict.{Grant}
 use Rattle.desk_policy.specs.declared.verdict.Denial.{Denial}
@@ -13,6 +12,7 @@ use Rattle.page_data.specs.declared.rows.TableRow.{TableRow}
 use Rattle.page_html.specs.Items.{Item, LineLink, Nothing, Own, PartOf, Ranges, Terms, Words}
 use Rattle.page_html.specs.Tables.{Count, Frame, Name, Plain}
 use Rattle.page_html.specs.declared.ranges.Span.{Span}
+use Rattle.page_html.specs.Ranges.{between}
 use Rattle.page_findings.specs.Badges.{badge_item}
 
 -- a verdict, and ranges of addresses that have it

@@ -13,8 +13,8 @@ use Rattle.page_data.specs.Values.{AreRunsOfSome}
 use Rattle.page_data.specs.declared.opening.Opening.{Opening}
 use Rattle.page_findings.specs.Deciding.{DecidedFor}
 use Rattle.page_findings.specs.FindingWords.{FindingValue, finding_value}
-use Rattle.page_findings.specs.Lines.{LineValue}
-use Rattle.page_findings.specs.UniqueLaws.{AreAlike, KnownLine, LinesAreToldInOneWay, known_line}
+use Rattle.page_findings.specs.Lines.{KnownLine, LineValue, known_line}
+use Rattle.page_findings.specs.UniqueLaws.{AreAlike, LinesAreToldInOneWay}
 use Rattle.page_findings.specs.declared.finding_words.Finding.{Finding}
 use Rattle.page_findings.proofs.Alike.{stands_by}
 use Rattle.page_findings.proofs.Mapped.{map_twice}

@@ -14,8 +14,8 @@ use Rattle.page_html.specs.Titles.{Said}
 use Rattle.page_html.specs.declared.blocks.Tag.TheVariants.{FoldEnd, TableEnd}
 use Rattle.page_findings.specs.Deciding.{DecidedFor}
 use Rattle.page_findings.specs.Findings.{stands_out}
-use Rattle.page_findings.specs.Lines.{AreLinesOfSite, LineValue}
-use Rattle.page_findings.specs.UniqueLaws.{KnownLine, LinesAreToldInOneWay, known_line}
+use Rattle.page_findings.specs.Lines.{AreLinesOfSite, KnownLine, LineValue, known_line}
+use Rattle.page_findings.specs.UniqueLaws.{LinesAreToldInOneWay}
 use Rattle.page_findings.proofs.Alike.{known_standing, level_known, level_of_known, stands_by}
 use Rattle.page_findings.proofs.Mapped.{count_mapped, filter_mapped, map_twice}
 use Rattle.page_summary.specs.Files.{text_in_force}

@@ -88,6 +88,7 @@ findings_frame = record { class = codes "f"; is_titled = false; columns = column
 abbrev pub more_frame : Frame
 more_frame = record { class = codes "f"; is_titled = true; columns = columns }
 
+-- the row of lines that are told alike
 abbrev pub cells : RowValue → List RowValue → List (List (Item (List ℕ)))
 cells first all = cells_of told (record { first = first; all = all })
 
@@ -95,6 +96,7 @@ abbrev pub lines_html : Frame → List FindingRow → List ℕ
 lines_html frame [] = []
 lines_html frame (first ∷ others) = row_html frame (cells (row_value first) (map row_value (first ∷ others)))
 
+-- a table of such rows
 abbrev pub table : Frame → List ℕ → List (List FindingRow) → List ℕ
 table frame title rows = table_start frame (Said title ∷ []) ++ flat_map (lines_html frame) rows ++ tag_html TableEnd
 

@@ -70,7 +70,7 @@ standing_out first check =
     else (if check == 0 then first_level first ∷ Own Nothing ∷ Own Nothing ∷ []
     else first_level first ∷ Own (Words (codes ", ")) ∷ second_level check ∷ []))
 
--- what a row for a file system tells behind its maps, given its newest revision
+-- what a row for a file system tells behind how far it reaches, given its newest revision
 abbrev pub told_cells : Option Head → SystemRow → List (List (Item (List ℕ)))
 told_cells head system =
     keepers system.custodians.now system.guarded ∷ in_force head system.has_proposal ∷ standing_out system.first system.check ∷ []

@@ -5,8 +5,7 @@ use Rattle.desk_exports.specs.declared.entry.Clients.TheVariants.{Hosts, Net, Ne
 use Rattle.page_findings.specs.Deciding.{DecidedFor, deciding_of}
 use Rattle.page_findings.specs.FindingWords.{FindingValue, finding_value}
 use Rattle.page_findings.specs.Findings.{level_of_line, stands_out}
-use Rattle.page_findings.specs.Lines.{LineValue}
-use Rattle.page_findings.specs.UniqueLaws.{KnownLine, known_line}
+use Rattle.page_findings.specs.Lines.{KnownLine, LineValue, known_line}
 use Rattle.page_data.specs.declared.reasons.Level.{Level}
 use Rattle.page_summary.specs.declared.site_finding.SiteFinding.{SiteFinding}
 

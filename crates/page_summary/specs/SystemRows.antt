@@ -35,7 +35,7 @@ pub record SiteParts : Type 0 where
   pub proposals : List Proposal
   pub maps : List (List (List ℕ))
 
--- The row of the file system at a place, given the newest revision of each file, and for which one a proposal waits.
+-- The row of the file system at a place, given the newest revision of the exports file of each, and whether a proposal for it waits.
 pub record IsRowWith (content : Content) (systems : List SystemValue) (reasons : List (List LineReasons)) (maps : List (List (List ℕ)))
     (newest : Mount → Option Head) (waiting : Mount → Bool) (place : ℕ) (row : SystemRow) : Type 0 where
   pub mount : Mount
