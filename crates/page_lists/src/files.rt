@@ -104,11 +104,7 @@ fn newest_digest(alloc: Global, newest: Option<&Head>) -> Result<String, AllocEr
 }
 
 /// Adds the files, in the order given.
-pub fn push_files<'a>(
-    alloc: Global,
-    rows: &'a [FileRow<'a>],
-    page: &mut String,
-) -> Result<(), AllocError>
+pub fn push_files(alloc: Global, rows: &[FileRow<'_>], page: &mut String) -> Result<(), AllocError>
     ensures { OnOk result (string_bytes page.new ≡ string_bytes page.old ++ spec.files rows.now) }
 {
     let count = rows.len() as u64;
@@ -127,11 +123,7 @@ pub fn push_files<'a>(
 
 /// Adds rows.
 #[tactic(auto, unfolding(page_html::specs::Tables::rows_html))]
-fn push_rows<'a>(
-    alloc: Global,
-    rows: &'a [FileRow<'a>],
-    page: &mut String,
-) -> Result<(), AllocError>
+fn push_rows(alloc: Global, rows: &[FileRow<'_>], page: &mut String) -> Result<(), AllocError>
     ensures { OnOk result (string_bytes page.new ≡ string_bytes page.old ++ rows_html spec.frame (map (λ row. spec.cells (spec.row_value row)) rows.now)) }
 {
     for row in rows {

@@ -78,9 +78,9 @@ fn warning_row<'a>(filesystems: &FileSystems, warning: &'a Warning) -> WarningRo
 }
 
 /// Adds what the desk warns of, in the order given.
-pub fn push_warnings<'a>(
+pub fn push_warnings(
     alloc: Global,
-    rows: &'a [WarningRow<'a>],
+    rows: &[WarningRow<'_>],
     page: &mut String,
 ) -> Result<(), AllocError>
     ensures { OnOk result (string_bytes page.new ≡ string_bytes page.old ++ spec.warnings rows.now) }
@@ -98,9 +98,9 @@ pub fn push_warnings<'a>(
 }
 
 /// Adds warnings, folded if they are many.
-fn push_some_warnings<'a>(
+fn push_some_warnings(
     alloc: Global,
-    rows: &'a [WarningRow<'a>],
+    rows: &[WarningRow<'_>],
     page: &mut String,
 ) -> Result<(), AllocError>
     ensures { OnOk result (string_bytes page.new ≡ string_bytes page.old ++ spec.some_warnings rows.now) }
@@ -121,11 +121,7 @@ fn push_some_warnings<'a>(
 
 /// Adds rows.
 #[tactic(auto, unfolding(page_html::specs::Tables::rows_html))]
-fn push_rows<'a>(
-    alloc: Global,
-    rows: &'a [WarningRow<'a>],
-    page: &mut String,
-) -> Result<(), AllocError>
+fn push_rows(alloc: Global, rows: &[WarningRow<'_>], page: &mut String) -> Result<(), AllocError>
     ensures { OnOk result (string_bytes page.new ≡ string_bytes page.old ++ rows_html spec.frame (map (λ row. spec.cells (spec.row_value row)) rows.now)) }
 {
     for row in rows {
@@ -135,11 +131,7 @@ fn push_rows<'a>(
 }
 
 /// Adds a row.
-fn push_warning<'a>(
-    alloc: Global,
-    row: &'a WarningRow<'a>,
-    page: &mut String,
-) -> Result<(), AllocError>
+fn push_warning(alloc: Global, row: &WarningRow<'_>, page: &mut String) -> Result<(), AllocError>
     ensures { OnOk result (string_bytes page.new ≡ string_bytes page.old ++ row_html spec.frame (spec.cells (spec.row_value row.now))) }
 {
     let line = line_of(row);
